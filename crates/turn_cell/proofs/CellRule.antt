@@ -228,8 +228,8 @@ module _ {T S E R : Type 0} (state : T → S) (after : S → E → S) (reply : S
       ))
 
   -- the store that gives the turn back with one entry more
-  pub may_publish : (slots id : ℕ) (single : slots ≡ 1) (v : View T E R) (o : T) (e : _) (x : _) (m : Sat T E R) (next : ℕ) → m ≡ (v, (0, Done o e x) ∷ []) → v.holds ≡ true
-      → state o ≡ after (state_seen state after reply v) e.value → x.value ≡ reply (state_seen state after reply v) e.value → next ≡ 2 * length v.seen + 2
+  pub may_publish : (slots id : ℕ) (single : slots ≡ 1) (v : View T E R) (o : _) (e : _) (x : _) (m : Sat T E R) (next : ℕ) → m ≡ (v, (0, Done o e x) ∷ []) → v.holds ≡ true
+      → state o.value ≡ after (state_seen state after reply v) e.value → x.value ≡ reply (state_seen state after reply v) e.value → next ≡ 2 * length v.seen + 2
       → Allows Rule slots id m 0 (λ _. next) (λ _. publishes (step slots 0 next 0 none) m next)
   may_publish slots id single v o e x m next is holds object says more = subst (λ (z : Sat T E R). Allows Rule slots id z 0 (λ _. next) (λ _. publishes (step slots 0 next 0 none) z next)) (sym is)
       (λ s t wide at small.
@@ -244,7 +244,7 @@ module _ {T S E R : Type 0} (state : T → S) (after : S → E → S) (reply : S
       let size = length-append t.log (new ∷ []) in
       let length_is : next ≡ 2 * length log = let z = ap (λ (l : List (Entry E R)). length l) whole in omega (arith, more, size, z) in
       let before : state_seen state after reply v ≡ leaves after reply (state t.first) t.log = λ i. leaves after reply (state (first i)) (whole i) in
-      let left : state o ≡ leaves after reply (state t.first) log = object ∙ (ap (λ (z : S). after z e.value) before ∙ sym (leaves_append after reply (state t.first) t.log (new ∷ []))) in
+      let left : state o.value ≡ leaves after reply (state t.first) log = object ∙ (ap (λ (z : S). after z e.value) before ∙ sym (leaves_append after reply (state t.first) t.log (new ∷ []))) in
       let live = (f.holder holds).3 in (
         w,
         gives,
@@ -255,7 +255,7 @@ module _ {T S E R : Type 0} (state : T → S) (after : S → E → S) (reply : S
           owner = t.owner;
           legal = legal_append after reply (state t.first) t.log (new ∷ []) t.legal (says ∙ ap (λ (z : S). reply z e.value) before, tt);
           wide = length-set s.words 0 next ∙ t.wide;
-          free = λ _. (now ∙ length_is, (Done o e x, o, set_here s.homes 0 (some (Done o e x)) (omega (arith, wide, single)), refl, left));
+          free = λ _. (now ∙ length_is, (Done o e x, o.value, set_here s.homes 0 (some (Done o e x)) (omega (arith, wide, single)), refl, left));
           taken = λ q. absurd (let z = ap (λ (z : ℕ). z % 2) (sym (now ∙ length_is)) ∙ q in omega (arith, z));
           out = λ q. absurd (let z = ap (λ (z : ℕ). z % 2) (sym (now ∙ length_is)) ∙ q in omega (arith, z));
           each = subst (λ (z : ℕ). (j : ℕ) (u : View T E R) → get_elem? (set s.views id w) j ≡ some u → Fits state after reply log t.first z t.owner j u) (sym now)

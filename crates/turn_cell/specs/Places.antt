@@ -6,5 +6,5 @@ use Rattle.turn_cell.specs.declared.place.Place.TheVariants.{Out, Home, Done}
 -- the object that is at home, where it is
 abbrev pub object_in : {T E R : Type 0} → Place T E R → Option T
 object_in Out = None
-object_in (Home o) = Some o
-object_in (Done o e r) = Some o
+object_in (Home o) = Some o.value
+object_in (Done o e r) = Some o.value

@@ -37,7 +37,7 @@ module _ {T E R : Type 0} where
 
   -- the store that gives the turn back with the entry that lies beside the object
   abbrev pub publishes : Step (Place T E R) → Sat T E R → ℕ → Sat T E R → Type 0
-  publishes st m stored n = (o : T) (e : _) (r : _) → m.1 ≡ (0, Done o e r) ∷ [] → n ≡ (grown m.0 e.value r.value, [])
+  publishes st m stored n = (o : _) (e : _) (r : _) → m.1 ≡ (0, Done o e r) ∷ [] → n ≡ (grown m.0 e.value r.value, [])
 
 module _ {T S E R : Type 0} (state : T → S) (after : S → E → S) (reply : S → E → R) where
   -- an object that means this is at home

@@ -56,7 +56,8 @@ impl<T: TurnObject> TurnCell<T> {
     {
         let first = Snapshot::of(&object);
         let mut slots = Vec::new(alloc);
-        slots.push(Place::Home(object))?;
+        let boxed = Box::new(alloc, object)?;
+        slots.push(Place::Home(boxed))?;
         match Table::new(alloc, &[0], slots, &first) {
             Ok((table, pass)) => Ok((Turnstile { table }, pass)),
             Err(Refused { slots: _ }) => Err(AllocError),
@@ -96,6 +97,6 @@ impl<T: TurnObject> TurnCell<T> {
         let mut closed = table.close_with(pass);
         let place = closed.take(0);
         closed.free();
-        place.into_object()
+        Box::into_inner(place.into_object())
     }
 }

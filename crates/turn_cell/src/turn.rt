@@ -39,12 +39,12 @@ impl<T: TurnObject> TurnCell<T> {
     ghost use Rattle.turn_cell.specs.Rule.{HasTurn, Takes, Begins};
 
     // Takes the turn and the object. Where the word is `most` or more it waits.
-    pub(crate) fn take_turn<R: Wait>(&self, rt: &R, pass: &mut Pass<T>, most: u64) -> (u64, T)
+    pub(crate) fn take_turn<R: Wait>(&self, rt: &R, pass: &mut Pass<T>, most: u64) -> (u64, Box<T>)
         requires { IsPassOf self.now pass.old }
         ensures seat { IsSameSeat pass.old pass.new }
         ensures turn { HasTurn result.0 pass.new.me × (result.0 < most) }
         ensures seen { Begins T.state T.after T.reply (pass_view pass.old) (pass_view pass.new) }
-        ensures object { T.state result.1 ≡ state_seen T.state T.after T.reply (pass_view pass.new) }
+        ensures object { T.state result.1.value ≡ state_seen T.state T.after T.reply (pass_view pass.new) }
     {
         let word = self.win_turn(rt, pass, most);
         let object = self.take_object(pass);
@@ -82,12 +82,12 @@ impl<T: TurnObject> TurnCell<T> {
         &self,
         pass: &mut Pass<T>,
         word: u64,
-        object: T,
+        object: Box<T>,
         asked: Snapshot<T::Event>,
         said: Snapshot<T::Reply>,
     )
         requires turn { (pass.old.table_id ≡ self.now) × HasTurn word pass.old.me × (word < 2 ^ 63) }
-        requires object { T.state object ≡ T.after (state_seen T.state T.after T.reply (pass_view pass.old)) asked.value }
+        requires object { T.state object.value ≡ T.after (state_seen T.state T.after T.reply (pass_view pass.old)) asked.value }
         requires said { said.value ≡ T.reply (state_seen T.state T.after T.reply (pass_view pass.old)) asked.value }
         ensures seat { IsSameSeat pass.old pass.new }
         ensures back { pass.new.me ≡ (grown (pass_view pass.old) asked.value said.value, []) }
@@ -97,9 +97,9 @@ impl<T: TurnObject> TurnCell<T> {
     }
 
     // Gives the turn back with nothing done.
-    pub(crate) fn release(&self, pass: &mut Pass<T>, word: u64, object: T)
+    pub(crate) fn release(&self, pass: &mut Pass<T>, word: u64, object: Box<T>)
         requires turn { (pass.old.table_id ≡ self.now) × HasTurn word pass.old.me }
-        requires object { T.state object ≡ state_seen T.state T.after T.reply (pass_view pass.old) }
+        requires object { T.state object.value ≡ state_seen T.state T.after T.reply (pass_view pass.old) }
         ensures seat { IsSameSeat pass.old pass.new }
         ensures back { pass.new.me ≡ (idle (pass_view pass.old), []) }
     {
@@ -108,10 +108,10 @@ impl<T: TurnObject> TurnCell<T> {
     }
 
     // Takes the object from its place.
-    fn take_object(&self, pass: &mut Pass<T>) -> T
+    fn take_object(&self, pass: &mut Pass<T>) -> Box<T>
         requires { (pass.old.table_id ≡ self.now) × ((p : _) × (object : T) × (pass.old.me.1 ≡ (0, p) ∷ []) × (object_in p ≡ Some object)) }
         ensures seat { IsSameSeat pass.old pass.new }
-        ensures out { (p : _) × (pass.old.me.1 ≡ (0, p) ∷ []) × (object_in p ≡ Some result) × (pass.new.me ≡ (pass.old.me.0, (0, Out) ∷ [])) }
+        ensures out { (p : _) × (pass.old.me.1 ≡ (0, p) ∷ []) × (object_in p ≡ Some result.value) × (pass.new.me ≡ (pass.old.me.0, (0, Out) ∷ [])) }
     {
         self.table
             .shared
