@@ -138,9 +138,10 @@ impl<S: SystemCalls + Drop> Host for FolderHost<S> {
         ensures open { OnOk result (IsTrue (had_bytes_in self.old.table.files file) → IsTrue (is_some self.new.folder.reader)) }
     {
         let name = name_of(file);
-        let answer = self.folder.length(self.table.asked(file, name.as_str()));
-        let has_bytes = answer.unwrap_or(0) > 0;
-        let count = self.table.count(file, answer, has_bytes)?;
+        let asked = self.table.asked(file, name.as_str());
+        let answer = self.folder.length(asked);
+        let is_news = !asked.had_bytes && answer.unwrap_or(0) > 0;
+        let count = self.table.count(file, answer, is_news)?;
         Ok(count)
     }
 
@@ -159,11 +160,10 @@ impl<S: SystemCalls + Drop> Host for FolderHost<S> {
         ensures open { OnOk result (IsTrue (had_bytes_in self.old.table.files file) → IsTrue (is_some self.new.folder.reader)) }
     {
         let name = name_of(file);
-        let answer = self
-            .folder
-            .read_at(self.table.asked(file, name.as_str()), at, into);
-        let has_bytes = answer.unwrap_or(0) > 0;
-        let count = self.table.count(file, answer, has_bytes)?;
+        let asked = self.table.asked(file, name.as_str());
+        let answer = self.folder.read_at(asked, at, into);
+        let is_news = !asked.had_bytes && answer.unwrap_or(0) > 0;
+        let count = self.table.count(file, answer, is_news)?;
         Ok(count)
     }
 
@@ -184,10 +184,10 @@ impl<S: SystemCalls + Drop> Host for FolderHost<S> {
         ensures noted { OnOk result (0 < length bytes.now → IsTrue (had_bytes_in self.new.table.files file)) }
     {
         let name = name_of(file);
-        let answer = self
-            .folder
-            .write_at(self.table.asked(file, name.as_str()), at, bytes);
-        self.table.count(file, answer, !bytes.is_empty())?;
+        let asked = self.table.asked(file, name.as_str());
+        let answer = self.folder.write_at(asked, at, bytes);
+        let is_news = !asked.had_bytes && !bytes.is_empty();
+        self.table.count(file, answer, is_news)?;
         Ok(())
     }
 

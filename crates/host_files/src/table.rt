@@ -162,26 +162,6 @@ impl Table {
         })
     }
 
-    // Whether a sync of a file has failed.
-    fn is_lost(&self, file: FileId) -> bool
-        ensures { result ≡ is_lost self.now.files file }
-    {
-        match self.files.get(file) {
-            Some(known) => known.is_lost,
-            None => false,
-        }
-    }
-
-    // Whether a file was seen to have bytes.
-    fn had_bytes(&self, file: FileId) -> bool
-        ensures { result ≡ had_bytes_in self.now.files file }
-    {
-        match self.files.get(file) {
-            Some(known) => known.had_bytes,
-            None => false,
-        }
-    }
-
     /// What the folder has to know of a file, of which this is the name.
     pub fn asked<'a>(&self, file: FileId, name: &'a str) -> Asked<'a>
         ensures file { result.file ≡ file }
@@ -189,11 +169,19 @@ impl Table {
         ensures lost { result.is_lost ≡ is_lost self.now.files file }
         ensures bytes { result.had_bytes ≡ had_bytes_in self.now.files file }
     {
-        Asked {
-            file,
-            name,
-            is_lost: self.is_lost(file),
-            had_bytes: self.had_bytes(file),
+        match self.files.get(file) {
+            Some(known) => Asked {
+                file,
+                name,
+                is_lost: known.is_lost,
+                had_bytes: known.had_bytes,
+            },
+            None => Asked {
+                file,
+                name,
+                is_lost: false,
+                had_bytes: false,
+            },
         }
     }
 
