@@ -1,7 +1,7 @@
 pub mod Arguments
 pub mod Cuts
-pub mod Floats
 pub mod ProgramNames
+pub mod NumberLines
 pub mod Numerals
 pub mod OneLine
 pub mod Shapes

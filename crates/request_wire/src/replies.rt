@@ -1,6 +1,7 @@
-ghost use Rattle.std.specs.Prelude.{◌≡◌, IfOk, string_bytes};
-ghost use Rattle.request_wire.specs.Reply.{type_name, grain_text, carried_data, fault_data, lock_data, vote_data, dependency_data, disk_data, doubt_data, outcome_data, bad_text, bad_data, reply_data, reply_line, RepliesAreLines};
+ghost use Rattle.std.specs.Prelude.{◌≡◌, false, [], ◌∷◌, ◌++◌, IfOk, string_bytes};
+ghost use Rattle.request_wire.specs.Reply.{type_name, grain_text, carried_data, fault_data, lock_data, vote_data, dependency_data, disk_data, doubt_data, outcome_data, bad_text, bad_data, reply_line, RepliesAreLines};
 ghost use Rattle.serde_json.specs.View.{view};
+ghost use Rattle.serde_json.specs.Written.{has_float, compact_text};
 
 use base_types::{BadRequest, Entry, GrainId, List, Outcome, Settled, Shape, UnitNo, Value};
 use serde_json::{Value as Json, json};
@@ -25,10 +26,22 @@ pub fn grain_text(alloc: Global, shape: &Shape, grain: GrainId) -> Result<String
     format!(in alloc; "{name}/{key}")
 }
 
-fn number_reply(alloc: Global, line: u32, unit: u64, number: i64) -> Result<Json, AllocError>
-    ensures { IfOk result (λ v. view v ≡ carried_data line unit (Value.Int number)) }
+// The line of a JSON value: its compact text and a line feed.
+fn value_line(alloc: Global, value: Json) -> Result<String, AllocError>
+    ensures { IfOk result
+        (λ text. has_float (view value) ≡ false → string_bytes text ≡ compact_text (view value) ++ 10 ∷ []) }
 {
-    json!(in alloc; {"n": line, "reply": number, "unit": unit})
+    let mut text = value.to_string(alloc)?;
+    text.push('\n')?;
+    Ok(text)
+}
+
+// The line of a unit that ended with a number, as most do: printed straight, without a tree.
+#[tactic(auto, using(crate::proofs::NumberLines::number_lines))]
+fn number_line(alloc: Global, line: u32, unit: u64, number: i64) -> Result<String, AllocError>
+    ensures { IfOk result (λ text. string_bytes text ≡ compact_text (carried_data line unit (Value.Int number)) ++ 10 ∷ []) }
+{
+    format!(in alloc; "{{\"n\":{line},\"reply\":{number},\"unit\":{unit}}}\n")
 }
 
 fn text_reply(alloc: Global, line: u32, unit: u64, text: &str) -> Result<Json, AllocError>
@@ -43,14 +56,21 @@ fn fault_reply(alloc: Global, line: u32, unit: u64, text: &str) -> Result<Json, 
     json!(in alloc; {"fault": text, "n": line, "unit": unit})
 }
 
-fn outcome_reply(alloc: Global, line: u32, unit: u64, outcome: &Outcome) -> Result<Json, AllocError>
-    ensures { IfOk result (λ v. view v ≡ outcome_data line unit outcome.now) }
+fn outcome_line(
+    alloc: Global,
+    line: u32,
+    unit: u64,
+    outcome: &Outcome,
+) -> Result<String, AllocError>
+    ensures { IfOk result (λ text. string_bytes text ≡ compact_text (outcome_data line unit outcome.now) ++ 10 ∷ []) }
 {
     match outcome {
-        Outcome::Value(Value::Int(number)) => number_reply(alloc, line, unit, *number),
-        Outcome::Value(Value::Text(text)) => text_reply(alloc, line, unit, text.as_str()),
-        Outcome::Fault(text) => fault_reply(alloc, line, unit, text.as_str()),
-        Outcome::Aborted => fault_reply(alloc, line, unit, "aborted"),
+        Outcome::Value(Value::Int(number)) => number_line(alloc, line, unit, *number),
+        Outcome::Value(Value::Text(text)) => {
+            value_line(alloc, text_reply(alloc, line, unit, text.as_str())?)
+        }
+        Outcome::Fault(text) => value_line(alloc, fault_reply(alloc, line, unit, text.as_str())?),
+        Outcome::Aborted => value_line(alloc, fault_reply(alloc, line, unit, "aborted")?),
     }
 }
 
@@ -123,19 +143,21 @@ fn bad_reply(alloc: Global, line: u32, why: BadRequest) -> Result<Json, AllocErr
     json!(in alloc; {"bad": word, "n": line})
 }
 
-fn reply_value(alloc: Global, entry: &Entry, shape: &Shape) -> Result<Json, AllocError>
-    ensures { IfOk result (λ v. view v ≡ reply_data shape.now entry.now) }
+fn entry_line(alloc: Global, entry: &Entry, shape: &Shape) -> Result<String, AllocError>
+    ensures { IfOk result (λ text. string_bytes text ≡ reply_line shape.now entry.now) }
 {
     let line = entry.line;
     let unit = entry.unit.0;
     match &entry.what {
-        Settled::Done(outcome) => outcome_reply(alloc, line, unit, outcome),
-        Settled::Lock { by, grain } => lock_reply(alloc, shape, line, unit, *by, *grain),
-        Settled::Vote { grain } => vote_reply(alloc, shape, line, unit, *grain),
-        Settled::Dependency { on } => dependency_reply(alloc, line, unit, *on),
-        Settled::Disk => disk_reply(alloc, line, unit),
-        Settled::InDoubt => doubt_reply(alloc, line, unit),
-        Settled::Bad(why) => bad_reply(alloc, line, *why),
+        Settled::Done(outcome) => outcome_line(alloc, line, unit, outcome),
+        Settled::Lock { by, grain } => {
+            value_line(alloc, lock_reply(alloc, shape, line, unit, *by, *grain)?)
+        }
+        Settled::Vote { grain } => value_line(alloc, vote_reply(alloc, shape, line, unit, *grain)?),
+        Settled::Dependency { on } => value_line(alloc, dependency_reply(alloc, line, unit, *on)?),
+        Settled::Disk => value_line(alloc, disk_reply(alloc, line, unit)?),
+        Settled::InDoubt => value_line(alloc, doubt_reply(alloc, line, unit)?),
+        Settled::Bad(why) => value_line(alloc, bad_reply(alloc, line, *why)?),
     }
 }
 
@@ -144,13 +166,10 @@ fn reply_value(alloc: Global, entry: &Entry, shape: &Shape) -> Result<Json, Allo
 /// A grain is written `type/key`, by the type's name in the shape, or by no name where the shape has no type
 /// of that number. An outcome that is an abort, which no settled entry has, is written as the fault
 /// `aborted`. The one error is want of memory; what was lent is as before.
-#[tactic(auto, using(crate::proofs::Floats::no_floats))]
 pub fn reply_text(alloc: Global, entry: &Entry, shape: &Shape) -> Result<List<u8>, AllocError>
     ensures { IfOk result (λ text. text ≡ reply_line shape.now entry.now) }
 {
-    let value = reply_value(alloc, entry, shape)?;
-    let mut text = value.to_string(alloc)?;
-    text.push('\n')?;
+    let text = entry_line(alloc, entry, shape)?;
     Ok(List::from_vec(text.into_bytes()))
 }
 
