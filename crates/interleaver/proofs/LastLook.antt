@@ -150,7 +150,7 @@ event-looked (Some settled) r e us below known =
     }
 
 -- the units that are carried have begun
-below-of : (types : ProgramTree) (r : Run) (agents : List Agent) → AreCarried types none_comes (own_sight r) agents → (u : UnitNo) → Member u (units_carried agents) → u.0 < (ends r).units.next
+pub below-of : (types : ProgramTree) (r : Run) (agents : List Agent) → AreCarried types none_comes (own_sight r) agents → (u : UnitNo) → Member u (units_carried agents) → u.0 < (ends r).units.next
 below-of types r agents c u m = subst (λ (x : Run). u.0 < (ends x).units.next) (own-run r) (c.below u m)
 
 -- behind a step of the settler, or a load

@@ -9,6 +9,7 @@ pub mod LineTurns
 pub mod MemoryEnds
 pub mod UnitsInFlight
 pub mod LastLook
+pub mod BegunLines
 pub mod RunEnds
 pub mod PickedTurns
 pub mod SureUnits

@@ -46,7 +46,8 @@ pub(crate) struct Turns {
     pub(crate) agents: Agents,
     /// How many of these units, from the first on, are known to be over and to have given back all their locks.
     pub(crate) front: usize,
-    /// How many entries were settled when all units that are carried were lines' that weren't decided, where that is known.
+    /// How many entries were settled when all units that were carried were lines' that weren't decided, where that is known. Those that
+    /// began since are lines' too.
     pub(crate) looked: Option<usize>,
     /// The units below this number lacked no grain when they were asked last, but for the one that moved since.
     pub(crate) sure: u64,
@@ -259,6 +260,7 @@ impl Turns {
         gate: &G,
     ) -> Result<(), RunFault>
         requires carried { AreCarried (program_tree checked.now) none_comes (own_sight (run_of core.old)) self.old.agents.list.items }
+        requires looked { IsLooked self.old.looked (run_of core.old) (units_carried self.old.agents.list.items) }
         requires sure { AreSure (program_tree checked.now) (run_of core.old) (units_carried self.old.agents.list.items) self.old.sure self.old.moved }
         requires room { self.old.begun < 2 ^ 64 - 1 }
         ensures put { OnErr result (Looks none_comes (own_sight (run_of core.old)) (own_sight (run_of core.new))
@@ -278,7 +280,6 @@ impl Turns {
         core.show_few();
         reach_begun(gate, began);
         self.front = 0;
-        self.looked = None;
         self.begun += 1;
         Ok(())
     }

@@ -30,6 +30,9 @@ next_line-requires g c = record {
 pub begin-requires-clause-carried : goal.begin-requires-clause-carried
 begin-requires-clause-carried g c = still-carried (program_tree c.args.checked.now) (run_of c.args.core.now) c.args.settler.now.doubted c.args.self.now.agents.list.items c.drop_unless_doubted.new.agents.list.items c.drop_unless_doubted.ensures.flown c.requires.units.carried
 
+pub begin-requires-clause-looked : goal.begin-requires-clause-looked
+begin-requires-clause-looked g c = c.drop_unless_doubted.ensures.looked
+
 pub begin-requires-clause-sure : goal.begin-requires-clause-sure
 begin-requires-clause-sure g c = dropped-sure (program_tree c.args.checked.now) (run_of c.args.core.now) c.args.settler.now.doubted c.args.self.now.agents.list.items c.drop_unless_doubted.new.agents.list.items c.args.self.now.sure c.args.self.now.moved c.drop_unless_doubted.ensures.flown c.requires.units.sure
 
