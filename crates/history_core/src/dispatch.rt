@@ -27,8 +27,14 @@ impl Parts {
         ensures { Refuses self.now event result }
     {
         match event {
-            CoreEvent::Grant { unit, grain, mode } => self.not_granted(unit, grain, mode),
-            _ => CoreReply::Unapplied,
+            CoreEvent::Grant { unit, grain, mode } => {
+                drop(event);
+                self.not_granted(unit, grain, mode)
+            }
+            _ => {
+                drop(event);
+                CoreReply::Unapplied
+            }
         }
     }
 
@@ -120,7 +126,10 @@ fn back(
     ensures { result ≡ with_event done event }
 {
     match done {
-        Ok(reply) => Ok(reply),
+        Ok(reply) => {
+            drop(event);
+            Ok(reply)
+        }
         Err(error) => Err((error, event)),
     }
 }

@@ -19,7 +19,10 @@ impl Parts {
         }
         match self.oldest_gone(self.units.reads(unit)) {
             Some(source) => AskAnswer::Doomed { source },
-            None => lock_answer(self.cells.is_here(grain), self.cells.ask(unit, grain, mode)),
+            None => {
+                let (is_here, ask) = self.cells.is_here_and_ask(unit, grain, mode);
+                lock_answer(is_here, ask)
+            }
         }
     }
 
