@@ -1,88 +1,21 @@
-ghost use Rattle.std.specs.Prelude.{◌≡◌, IfOk, List as AList, length, map, not, true, false, Some};
+ghost use Rattle.std.specs.Prelude.{◌≡◌, IfOk, not, true, false, Some};
 ghost use Rattle.core_model.specs.CoreState.{same_grain};
 ghost use Rattle.core_model.specs.Tests.{first_grain, first_of_two, is_before};
 ghost use Rattle.core_access.specs.FitAccess.{StaysFit};
 ghost use Rattle.core_access.specs.Sights.{Counts};
-ghost use Rattle.script_tree.specs.Programs.{ProgramTree, program_tree};
-ghost use Rattle.script_meaning.specs.Trails.{Given};
-ghost use Rattle.script_machine.specs.Machines.{FollowsTrail, HasRoomForParts, is_over, reads_in};
+ghost use Rattle.script_tree.specs.Programs.{program_tree};
 ghost use Rattle.script_machine.specs.declared.machine.Pause.TheVariants.{Done as IsAtEnd};
-ghost use Rattle.base_types.specs.Origins.{depth_of};
 ghost use Rattle.txn_agent.specs.declared.work.Doing.TheVariants.{Frees as FreesAll};
-ghost use Rattle.txn_agent.specs.MachineState.{IsEffectOf, found_by, source_of};
 ghost use Rattle.txn_agent.specs.CoreLink.{KnowsPaused, KnowsDoing};
 ghost use Rattle.txn_agent.specs.AgentStep.{Acts, AnswerSays, all_but};
 
 use crate::agent::Advanced;
 use crate::puts::{put_end, put_finish, put_release};
 use crate::work::{Carried, Doing, Work};
-use base_types::{GrainId, List, Outcome, State, UnitNo};
+use base_types::{GrainId, List, Outcome};
 use core_access::Access;
-use core_model::{Effect, Read};
 use script_check::Checked;
-use script_machine::Parts;
 use std::alloc::{AllocError, Global};
-
-/// What was found, each with its source.
-fn with_sources(
-    alloc: Global,
-    found: List<(GrainId, State)>,
-    sources: &List<UnitNo>,
-) -> Result<List<Read>, AllocError>
-    requires each { length sources.now ≡ length found }
-    ensures found { IfOk result (λ made. map found_by made ≡ found) }
-    ensures sources { IfOk result (λ made. map source_of made ≡ sources.now) }
-{
-    let mut reads = Vec::new(alloc);
-    for (grain, state) in found.into_vec() {
-        let source = sources.as_slice()[reads.len()];
-        reads.push(Read {
-            grain,
-            state,
-            source,
-        })?;
-    }
-    Ok(List::from_vec(reads))
-}
-
-/// What the unit did, once its script is over, and the grains that it locked.
-fn effect_of(
-    alloc: Global,
-    carried: Carried,
-    work: Work,
-) -> Result<(Effect, List<GrainId>), AllocError>
-    requires over { is_over work.machine ≡ true }
-    requires room { HasRoomForParts work.machine }
-    requires sources { length work.sources ≡ length (reads_in work.machine) }
-    ensures effect { IfOk result (λ made. (types : ProgramTree) (trail : AList Given)
-        → FollowsTrail types work.call (depth_of carried.origin) work.machine trail → IsEffectOf types carried work trail made.0) }
-    ensures held { IfOk result (λ made. made.1 ≡ work.held) }
-{
-    let Work {
-        call,
-        machine,
-        held,
-        sources,
-        kids: _,
-    } = work;
-    let Parts {
-        answers,
-        reads,
-        writes,
-        result,
-    } = machine.effect_parts();
-    let reads = with_sources(alloc, reads, &sources)?;
-    let effect = Effect {
-        unit: carried.unit,
-        origin: carried.origin,
-        call,
-        answers,
-        reads,
-        writes,
-        result,
-    };
-    Ok((effect, held))
-}
 
 /// Finishes a transaction. Then its locks are to be given back.
 pub fn finish<A: Access>(
@@ -103,7 +36,8 @@ pub fn finish<A: Access>(
         (A.sight access.new) made.1) }
     ensures doing { IfOk result (λ made. KnowsDoing (program_tree checked.now) (A.sight access.new) carried made.0) }
 {
-    let (effect, held) = effect_of(alloc, carried, work)?;
+    drop(outcome);
+    let (effect, held) = work.into_effect(alloc, carried)?;
     let done = put_finish(access, carried.unit, effect)?;
     if done {
         return Ok((Doing::Frees { held }, Advanced::Moved));
@@ -130,7 +64,8 @@ pub fn end_plain<A: Access>(
         (A.sight access.new) made.1) }
     ensures doing { IfOk result (λ made. KnowsDoing (program_tree checked.now) (A.sight access.new) carried made.0) }
 {
-    let (effect, held) = effect_of(alloc, carried, work)?;
+    drop(outcome);
+    let (effect, held) = work.into_effect(alloc, carried)?;
     let done = put_end(access, carried.unit, effect)?;
     if done {
         return Ok((Doing::Frees { held }, Advanced::Moved));

@@ -42,7 +42,12 @@ fn refuse<A: Access>(
 {
     let done = put_refuse(access, carried.unit, grain, mode)?;
     if done {
-        return Ok((Doing::Frees { held: work.held }, Advanced::Moved));
+        return Ok((
+            Doing::Frees {
+                held: work.into_held(),
+            },
+            Advanced::Moved,
+        ));
     }
     let pause = Pause::NeedGrain { grain, mode };
     Ok((Doing::Asks { work, pause }, Advanced::Moved))

@@ -21,7 +21,10 @@ fn put<A: Access>(access: &mut A, event: CoreEvent) -> Result<CoreReply, AllocEr
 {
     match access.put(event) {
         Ok(reply) => Ok(reply),
-        Err(_) => Err(AllocError),
+        Err(refused) => {
+            drop(refused);
+            Err(AllocError)
+        }
     }
 }
 

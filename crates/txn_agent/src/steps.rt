@@ -3,7 +3,7 @@ ghost use Rattle.core_access.specs.FitAccess.{StaysFit};
 ghost use Rattle.core_access.specs.Sights.{Counts, Looks};
 ghost use Rattle.script_tree.specs.Programs.{ProgramTree, program_tree};
 ghost use Rattle.promise_spec.specs.TurnRule.{is_wait};
-ghost use Rattle.txn_agent.specs.CoreLink.{IfOwn, KnowsPaused, KnowsDoing};
+ghost use Rattle.txn_agent.specs.CoreLink.{IfOwn, KnowsPaused, KnowsWaiting, KnowsDoing};
 ghost use Rattle.txn_agent.specs.AgentStep.{Acts, AnswerSays, Hears, children_of};
 ghost use Rattle.txn_agent.specs.ShownMoves.{ShowsMove};
 
@@ -11,12 +11,13 @@ use crate::agent::Advanced;
 use crate::children::{begin_child, hear};
 use crate::ends::{end_plain, finish, release};
 use crate::locks::take_grain;
-use crate::looks::{ask_for, is_decided};
+use crate::looks::{ask_for, is_decided, known_of};
 use crate::work::{Carried, Doing, Work};
+use base_types::UnitNo;
 use core_access::Access;
-use core_model::AskAnswer;
+use core_model::{AskAnswer, KnownOutcome};
 use script_check::Checked;
-use script_machine::Pause;
+use script_machine::{Input, Pause};
 use std::alloc::{AllocError, Global};
 
 /// Hands the script the outcome of the child for which it waits, where the child is decided.
@@ -77,6 +78,36 @@ fn do_asked<A: Access>(
     }
 }
 
+/// Hands the script the outcome of the child for which it waits and does what it asks for then, where the child is decided.
+fn await_child<A: Access>(
+    alloc: Global,
+    checked: &Checked,
+    access: &mut A,
+    carried: Carried,
+    work: Work,
+    child: UnitNo,
+) -> Result<(Doing, Advanced), AllocError>
+    requires fit { A.is_fit access.old }
+    requires counts { Counts (A.sight access.old) }
+    requires waits { KnowsWaiting (program_tree checked.now) (A.sight access.old) carried work child }
+    ensures kept { StaysFit (A.is_fit access.new) (A.aside access.old) (A.aside access.new) }
+    ensures acts { Acts A.may_come (program_tree checked.now) carried.unit (A.sight access.old) (A.sight access.new) }
+    ensures told { IfOk result (λ made. AnswerSays A.may_come (program_tree checked.now) carried.unit work.kids (A.sight access.old)
+        (A.sight access.new) made.1) }
+    ensures doing { IfOk result (λ made. KnowsDoing (program_tree checked.now) (A.sight access.new) carried made.0) }
+{
+    match known_of(access, child)? {
+        KnownOutcome::Undecided => Ok((
+            Doing::Awaits { work, child },
+            Advanced::WaitsFor { child },
+        )),
+        KnownOutcome::Decided(outcome) => {
+            let (work, pause) = work.resume(alloc, checked, Input::Unit { outcome })?;
+            do_asked(alloc, checked, access, carried, work, pause)
+        }
+    }
+}
+
 /// Goes on by at most one event of the unit.
 pub fn step<A: Access>(
     alloc: Global,
@@ -94,12 +125,9 @@ pub fn step<A: Access>(
         (A.sight access.new) made.1) }
     ensures doing { IfOk result (λ made. KnowsDoing (program_tree checked.now) (A.sight access.new) carried made.0) }
 {
-    match hear_child(alloc, checked, access, carried, doing)? {
+    match doing {
         Doing::Asks { work, pause } => do_asked(alloc, checked, access, carried, work, pause),
-        Doing::Awaits { work, child } => Ok((
-            Doing::Awaits { work, child },
-            Advanced::WaitsFor { child },
-        )),
+        Doing::Awaits { work, child } => await_child(alloc, checked, access, carried, work, child),
         Doing::Frees { held } => release(checked, access, carried, held),
         Doing::Stopped => Ok((Doing::Stopped, Advanced::Ended)),
     }

@@ -5,8 +5,8 @@ use Rattle.txn_agent.proofs.AgentCalls.{end_acts, end_done, end_moves, end_over,
 use Rattle.txn_agent.proofs.UnhopedReplies.{was-done}
 use Rattle.txn_agent.proofs.ends.end_plain.Goals as goal
 
-pub effect_of-requires-clause-sources : goal.effect_of-requires-clause-sources
-effect_of-requires-clause-sources g c = c.requires.paused.at_work.sources ∙ ap length (sym c.requires.paused.at_work.follows.reads)
+pub into_effect-requires-clause-sources : goal.into_effect-requires-clause-sources
+into_effect-requires-clause-sources g c = c.requires.paused.at_work.sources ∙ ap length (sym c.requires.paused.at_work.follows.reads)
 
 pub returns-then-done-clause-acts : goal.returns-then-done-clause-acts
 returns-then-done-clause-acts g c = end_acts g.A.Access.may_come (program_tree c.args.checked.now) (g.A.Access.sight c.args.access.now) (g.A.Access.sight c.put_end.new.access) c.args.carried c.args.work c.requires.counts c.args.outcome c.in_ok-effect.effect c.in_ok-done.ensures.said.0 c.requires.paused (c.in_ok-effect.ensures.effect (program_tree c.args.checked.now) c.requires.paused.trail c.requires.paused.at_work.follows) c.in_ok-done.ensures.said.1
