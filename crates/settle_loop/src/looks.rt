@@ -34,8 +34,12 @@ pub fn see_wanted<A: Access>(access: &mut A) -> Result<Option<GrainId>, AllocErr
     ensures looked { Looks A.may_come (A.sight access.old) (A.sight access.new) }
     ensures wanted { IfOk result (λ grain. grain ≡ next_wanted (state_shown (A.sight access.new))) }
 {
-    match access.see(&CoreQuestion::NextWanted)? {
-        CoreAnswer::NextWanted(grain) => Ok(grain),
+    let answer = access.see(&CoreQuestion::NextWanted)?;
+    match answer {
+        CoreAnswer::NextWanted(grain) => {
+            drop(answer);
+            Ok(grain)
+        }
         _ => unreachable!(),
     }
 }
@@ -50,7 +54,10 @@ pub fn put<A: Access>(access: &mut A, event: CoreEvent) -> Result<CoreReply, All
 {
     match access.put(event) {
         Ok(reply) => Ok(reply),
-        Err((fault, _)) => Err(fault),
+        Err((fault, event)) => {
+            drop(event);
+            Err(fault)
+        }
     }
 }
 
@@ -62,7 +69,11 @@ pub fn sees_unwritten<A: Access>(access: &mut A) -> Result<bool, AllocError>
     ensures answer { IfOk result (λ found. found ≡ has_unwritten (state_shown (A.sight access.new))) }
 {
     match access.see(&CoreQuestion::NextSettled)? {
-        CoreAnswer::NextSettled(entry) => Ok(entry.is_some()),
+        CoreAnswer::NextSettled(entry) => {
+            let is_some = entry.is_some();
+            drop(entry);
+            Ok(is_some)
+        }
         _ => unreachable!(),
     }
 }

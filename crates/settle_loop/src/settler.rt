@@ -127,7 +127,9 @@ impl Settler {
         ensures applies { IfOk result (λ b. b ≡ has_step (settler_step (state_shown (A.sight access.new)))) }
     {
         let work = look(access)?;
-        Ok(is_some_work(&work))
+        let is_some = is_some_work(&work);
+        drop(work);
+        Ok(is_some)
     }
 
     // Counts what an event that applied says.
@@ -157,7 +159,9 @@ impl Settler {
         ensures writer { self.new.writer ≡ self.old.writer }
     {
         let reply = put(access, event)?;
-        if !has_applied(&reply) {
+        let applied = has_applied(&reply);
+        drop(reply);
+        if !applied {
             return Ok(Turned::Stepped);
         }
         self.count(writes, doubts);

@@ -45,7 +45,10 @@ pub(crate) fn carry_in_turns<H: Host, G: Gate, L: Lines + Copy>(
         alloc, checked, &mut core, settler, &mut lines, host, gate, width, picks, used,
     ) {
         Ok(()) => Ok(core),
-        Err(fault) => Err(fault),
+        Err(fault) => {
+            drop(core);
+            Err(fault)
+        }
     }
 }
 
@@ -86,7 +89,10 @@ pub(crate) fn carry_by_workers<
         workers as usize,
     );
     match ended {
-        Err(fault) => return Err(fault),
+        Err(fault) => {
+            drop(back);
+            return Err(fault);
+        }
         Ok(()) => {}
     }
     match back {

@@ -92,7 +92,11 @@ fn end_load<H: Host>(
     ensures ready { StaysReady (H.is_ready host.old) (H.is_ready host.new) }
 {
     match ended {
-        Ok(core) => print_summary(alloc, &core, requests, host),
+        Ok(core) => {
+            let status = print_summary(alloc, &core, requests, host);
+            drop(core);
+            status
+        }
         Err(fault) => load_status(slot, fault),
     }
 }
@@ -131,7 +135,10 @@ fn begin_load<H: Host>(
     };
     match create(host, bank_text()) {
         Ok(()) => {}
-        Err(fault) => return Err(creation_status(fault)),
+        Err(fault) => {
+            drop(bank);
+            return Err(creation_status(fault));
+        }
     }
     let opened = match open_silo(alloc, host) {
         Ok(opened) => Opened {
@@ -147,7 +154,10 @@ fn begin_load<H: Host>(
             session: opened.session,
             gate_at: opened.gate_at,
         },
-        Err(fault) => return Err(open_status(fault)),
+        Err(fault) => {
+            drop(bank);
+            return Err(open_status(fault));
+        }
     };
     let started = match start(alloc, opened, true) {
         Ok(started) => started,
@@ -155,7 +165,10 @@ fn begin_load<H: Host>(
     };
     match load_lines(alloc, transfers, seed) {
         Ok(lines) => Ok(BegunLoad { started, lines }),
-        Err(AllocError) => Err(Status::Memory),
+        Err(AllocError) => {
+            drop(started);
+            Err(Status::Memory)
+        }
     }
 }
 
@@ -202,6 +215,9 @@ pub(crate) fn load_in_turns<H: Host, G: Gate>(
         picks,
         &mut used,
     );
+    drop(settler);
+    drop(checked);
+    drop(lines);
     end_load(alloc, slot, ended, requests, host)
 }
 
@@ -245,5 +261,8 @@ pub(crate) fn load_by_workers<R: Threads + Wait + Sync, H: Host, G: Gate + Sync>
         gate,
         workers,
     );
+    drop(settler);
+    drop(checked);
+    drop(lines);
     end_load(alloc, slot, ended, requests, host)
 }

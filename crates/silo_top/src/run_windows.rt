@@ -99,7 +99,11 @@ fn window_in_turns<H: Host, G: Gate>(
     } = running;
     match next_window(&mut windows, host) {
         Ok(()) => {}
-        Err(status) => return Err(status),
+        Err(status) => {
+            drop(started);
+            drop(windows);
+            return Err(status);
+        }
     }
     let Started {
         slot,
@@ -130,7 +134,12 @@ fn window_in_turns<H: Host, G: Gate>(
             windows,
             used,
         }),
-        Err(fault) => Err(fault_status(slot, fault)),
+        Err(fault) => {
+            drop(checked);
+            drop(settler);
+            drop(windows);
+            Err(fault_status(slot, fault))
+        }
     }
 }
 
@@ -158,7 +167,11 @@ fn window_by_workers<R: Threads + Wait + Sync, H: Host, G: Gate + Sync>(
     } = running;
     match next_window(&mut windows, host) {
         Ok(()) => {}
-        Err(status) => return Err(status),
+        Err(status) => {
+            drop(started);
+            drop(windows);
+            return Err(status);
+        }
     }
     let Started {
         slot,
@@ -188,7 +201,12 @@ fn window_by_workers<R: Threads + Wait + Sync, H: Host, G: Gate + Sync>(
             windows,
             used,
         }),
-        Err(fault) => Err(fault_status(slot, fault)),
+        Err(fault) => {
+            drop(checked);
+            drop(settler);
+            drop(windows);
+            Err(fault_status(slot, fault))
+        }
     }
 }
 

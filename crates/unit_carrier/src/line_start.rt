@@ -68,7 +68,10 @@ fn put<A: Access>(access: &mut A, event: CoreEvent) -> Result<CoreReply, AllocEr
 {
     match access.put(event) {
         Ok(reply) => Ok(reply),
-        Err((fault, _)) => Err(fault),
+        Err((fault, event)) => {
+            drop(event);
+            Err(fault)
+        }
     }
 }
 
@@ -119,7 +122,9 @@ fn start_call<A: Access>(
             plain,
         },
     )?;
-    match begun(&reply) {
+    let began = begun(&reply);
+    drop(reply);
+    match began {
         Some(unit) => {
             agents.carry(alloc, checked, unit, origin, asked, plain)?;
             Ok(Some(unit))
@@ -148,13 +153,14 @@ pub fn start_line<A: Access>(
     match &line.what {
         Ok(call) => start_call(alloc, checked, access, agents, line.number, call),
         Err(why) => {
-            put(
+            let reply = put(
                 access,
                 CoreEvent::Bad {
                     line: line.number,
                     why: *why,
                 },
             )?;
+            drop(reply);
             Ok(None)
         }
     }

@@ -45,6 +45,7 @@ pub(crate) fn begin_next<A: Access, L: Lines, G: Gate>(
         None => Ok(false),
         Some(line) => {
             let began = start_line(alloc, checked, access, agents, &line)?;
+            drop(line);
             match began {
                 None => Ok(true),
                 Some(unit) => {

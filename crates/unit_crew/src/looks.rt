@@ -47,7 +47,10 @@ pub(crate) fn was_aborted<A: Access>(access: &mut A, unit: UnitNo) -> bool
 {
     match access.see(&CoreQuestion::Outcome { unit }) {
         Ok(CoreAnswer::Outcome(KnownOutcome::Decided(Outcome::Aborted))) => true,
-        Ok(_told) => false,
+        Ok(told) => {
+            drop(told);
+            false
+        }
         Err(AllocError) => false,
     }
 }

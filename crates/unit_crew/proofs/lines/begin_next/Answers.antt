@@ -40,12 +40,12 @@ returns-in-None-began-clause-crew g c =
     starts-crew (program_tree c.args.checked.now) g.A.Access.may_come (g.A.Access.sight c.next_line.new.access) (g.A.Access.sight c.start_line.new.access) c.in-Some.line.number c.args.agents.now.list.items c.start_line.new.agents.list.items c.in_ok-began-in-Some.began (looks-crew (program_tree c.args.checked.now) g.A.Access.may_come (g.A.Access.sight c.args.access.now) (g.A.Access.sight c.next_line.new.access) c.args.agents.now.list.items c.requires.crew c.next_line.ensures.looked)
     c.in-Some.line.what c.in_ok-began-in-Some.ensures.starts
 
-pub returns-clause-works : goal.returns-clause-works
-returns-clause-works g c =
+pub returns-in-Some-began-clause-works : goal.returns-in-Some-began-clause-works
+returns-in-Some-began-clause-works g c =
     works-on (IsBasisOf (program_tree c.args.checked.now) c.args.before (g.L.Lines.lines c.args.lines.now)) (g.A.Access.sight c.args.access.now) (g.A.Access.sight c.next_line.new.access) (g.A.Access.sight c.start_line.new.access) (works-looks (IsBasisOf (program_tree c.args.checked.now) c.args.before (g.L.Lines.lines c.args.lines.now)) g.A.Access.may_come (g.A.Access.sight c.args.access.now) (g.A.Access.sight c.next_line.new.access) c.next_line.ensures.looked)
     (works-starts g.A.Access.may_come (program_tree c.args.checked.now) c.args.before c.saturating_sub-place.result (g.L.Lines.lines c.args.lines.now) c.in-Some.line (g.A.Access.sight c.next_line.new.access) (g.A.Access.sight c.start_line.new.access) c.args.agents.now.list.items c.start_line.new.agents.list.items c.in_ok-began-in-Some.began (sym c.in_ok-line_at.ensures.line ∙ c.in-Some.is) c.in_ok-began-in-Some.ensures.starts)
 
-pub returns-clause-crew : goal.returns-clause-crew
-returns-clause-crew g c =
+pub returns-in-Some-began-clause-crew : goal.returns-in-Some-began-clause-crew
+returns-in-Some-began-clause-crew g c =
     starts-crew (program_tree c.args.checked.now) g.A.Access.may_come (g.A.Access.sight c.next_line.new.access) (g.A.Access.sight c.start_line.new.access) c.in-Some.line.number c.args.agents.now.list.items c.start_line.new.agents.list.items c.in_ok-began-in-Some.began (looks-crew (program_tree c.args.checked.now) g.A.Access.may_come (g.A.Access.sight c.args.access.now) (g.A.Access.sight c.next_line.new.access) c.args.agents.now.list.items c.requires.crew c.next_line.ensures.looked)
     c.in-Some.line.what c.in_ok-began-in-Some.ensures.starts

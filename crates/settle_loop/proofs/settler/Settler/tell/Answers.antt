@@ -17,7 +17,7 @@ returns-then-branch-clause-told g c =
       (
         mid,
         told_more g.A.Access.may_come c.args.event c.args.writes c.args.doubts c.args.self.now c.count.new.self s mid r c.in_ok-reply.ensures.told
-            (sym c.has_applied.ensures ∙ c.if-not-has_applied.false) c.count.ensures c.if-not-self.false t c.sees_unwritten.ensures.looked (sym c.in_ok-sees_unwritten.ensures.answer ∙ c.if-branch.true),
+            (sym c.has_applied-applied.ensures ∙ c.if-not-applied.false) c.count.ensures c.if-not-self.false t c.sees_unwritten.ensures.looked (sym c.in_ok-sees_unwritten.ensures.answer ∙ c.if-branch.true),
       ),
     )
 
@@ -32,7 +32,7 @@ returns-clause-told g c =
         mid,
         (
           told_doubt g.A.Access.may_come c.args.event c.args.writes c.args.doubts c.args.self.now c.count.new.self s mid r c.in_ok-reply.ensures.told
-              (sym c.has_applied.ensures ∙ c.if-not-has_applied.false) c.count.ensures c.if-not-self.false t c.sees_unwritten.ensures.looked,
+              (sym c.has_applied-applied.ensures ∙ c.if-not-applied.false) c.count.ensures c.if-not-self.false t c.sees_unwritten.ensures.looked,
           sym c.in_ok-sees_unwritten.ensures.answer ∙ c.if-branch.false,
         ),
       ),
