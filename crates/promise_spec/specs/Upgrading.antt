@@ -14,7 +14,7 @@ use Rattle.promise_spec.specs.Programs.{Program, text_limit}
 use Rattle.promise_spec.specs.Entries.{Log, standing_of, upgraded}
 use Rattle.promise_spec.specs.Logs.{IsMagic, IsLog}
 use Rattle.promise_spec.specs.Images.{IsWholeFolder}
-use Rattle.promise_spec.specs.Moments.{counted_moments}
+use Rattle.promise_spec.specs.Moments.{IsImageOf, counted_moments}
 use Rattle.promise_spec.specs.Openings.{Reads, opened_as}
 use Rattle.promise_spec.specs.Endings.{Ending, Done, Memory, ReadFault, DiskFault, BadProgram, InputTooLong, UpgradeRefused, HasFailedAs}
 use Rattle.promise_spec.specs.Courses.{Observed, seen_at_entry}
@@ -76,7 +76,8 @@ pub record IsUpgrading (live : ℕ) (log : Log) (p : Program) (r : Observed) (m 
   pub either : (image : Image) → IsImage m.disk image → IsLog live image log ⊎ IsLog live image (upgraded log p)
 
 -- Up to the return of the opening's last sync each image is one of those at entry, and from then on the log is upgraded. Done means that
--- each image has the upgrade. No image is a silo by a slot whose manager file reads too short at the end.
+-- each image has the upgrade. The upgrade's block is of the session behind the greatest that was read: that is the greatest of each image
+-- that has it. No image is a silo by a slot whose manager file reads too short at the end.
 pub record Upgrades (live : ℕ) (log : Log) (p : Program) (r : Observed) : Type 0 where
   pub read : IsLog live (seen_at_entry r) log
   pub early : List Moment
@@ -84,6 +85,7 @@ pub record Upgrades (live : ℕ) (log : Log) (p : Program) (r : Observed) : Type
   pub past : r.new.past ≡ r.old.past ++ (early ++ late)
   pub before : (m : Moment) → Member m early → IsAsAtEntry r.old m
   pub moments : (m : Moment) → Member m (counted_moments r.old early late r.new) → IsUpgrading live log p r m
+  pub session : (image : Image) → IsImageOf (counted_moments r.old early late r.new) image → (has : IsLog live image (upgraded log p)) → has.is.session ≡ read.is.session + 1
   pub shows : ShowsSilos IsMagic r.new.disk
   pub done : r.ending ≡ Done → (image : Image) → IsImage r.new.disk image → IsLog live image (upgraded log p)
 

@@ -26,6 +26,9 @@ use program_file::{ProgramFileFault, accept, read_program};
 use script_check::Checked;
 use std::alloc::Global;
 
+/// The greatest session that a block may have, which none can follow.
+const LAST_SESSION: u64 = (1 << 63) - 1;
+
 /// An opened silo: the slot that is live and its generation, the program in force with its text, all programs that came into force one after
 /// the other, the one in force too, how many entries its log has, those before the log's beginning too, where the last version of each grain
 /// that has one stands, the greatest end among the places that are named in each grain's file, the number of the next unit, the greatest
@@ -44,6 +47,20 @@ pub struct Opened {
     pub next_unit: UnitNo,
     pub session: u64,
     pub gate_at: u64,
+}
+
+impl Opened {
+    /// The session of the blocks of a call that goes on behind this log: one more than the log's greatest. `None` where no session
+    /// follows that one, as each is below 2 to the 63.
+    pub fn next_session(&self) -> Option<u64>
+        ensures next { IfSome result (λ session. (session ≡ self.now.session + 1) × (session < 2 ^ 63)) }
+        ensures last { result ≡ None → 2 ^ 63 ≤ self.now.session + 1 }
+    {
+        if self.session >= LAST_SESSION {
+            return None;
+        }
+        Some(self.session + 1)
+    }
 }
 
 // Whether a slot's manager file is as long as a header and a gate. Where it is, it was synced: nothing of it is pending afterwards.

@@ -1,4 +1,4 @@
-ghost use Rattle.std.specs.Prelude.{◌≡◌, ◌+◌, ◌^◌, ◌<◌, ◌≤◌, [], length, Some, IfOk};
+ghost use Rattle.std.specs.Prelude.{◌≡◌, ◌^◌, ◌<◌, ◌≤◌, [], length, Some, IfOk};
 ghost use Rattle.log_reading.specs.Sums.{AreNear, AreOfPrograms};
 ghost use Rattle.promise_spec.specs.Cores.{memory_limit};
 ghost use Rattle.batch_disk.specs.Writers.{IsInBounds};
@@ -18,9 +18,6 @@ use std::snapshot::Snapshot;
 
 /// How many of the grains that were used last stay in memory.
 const KEPT_GRAINS: usize = 4_096;
-
-/// The greatest session that a block may have.
-const LAST_SESSION: u64 = 9_223_372_036_854_775_807;
 
 /// What carries the lines of a run: the slot of its files, the program, a core without events, and a settler at the end of the log.
 #[derive(Drop)]
@@ -43,17 +40,6 @@ fn unused_memory(alloc: Global) -> Result<Recent, AllocError>
     Ok(recent)
 }
 
-/// The session of a call that goes on behind this one: one more. None is 2 to the 63 or more.
-fn next_session(last: u64) -> Result<u64, AllocError>
-    requires { last < 2 ^ 63 }
-    ensures { IfOk result (λ session. (session ≡ last + 1) × (session < 2 ^ 63)) }
-{
-    if last >= LAST_SESSION {
-        return Err(AllocError);
-    }
-    Ok(last + 1)
-}
-
 /// A core and a settler of an opened silo. A quiet settler writes no replies, and its core keeps the last states. The settler's blocks have
 /// the session that follows the greatest of the log; where none follows, that is answered as want of memory.
 pub(crate) fn start(alloc: Global, opened: Opened, quiet: bool) -> Result<Started, AllocError>
@@ -61,7 +47,6 @@ pub(crate) fn start(alloc: Global, opened: Opened, quiet: bool) -> Result<Starte
     requires gate { opened.gate_at < 2 ^ 63 }
     requires above { 0 < opened.next_unit.0 }
     requires few { opened.next_unit.0 ≤ 2 ^ 63 }
-    requires session { opened.session < 2 ^ 63 }
     requires near { AreNear opened.ends }
     requires programs { ArePrograms (programs_of opened) }
     requires numbered { AreOfPrograms (length opened.programs) opened.places }
@@ -69,7 +54,9 @@ pub(crate) fn start(alloc: Global, opened: Opened, quiet: bool) -> Result<Starte
     ensures quiet { IfOk result (λ started. started.settler.quiet ≡ quiet) }
     ensures bounds { IfOk result (λ started. IsInBounds started.settler.writer) }
 {
-    let session = next_session(opened.session)?;
+    let Some(session) = opened.next_session() else {
+        return Err(AllocError);
+    };
     let shape = opened.checked.shape()?;
     let recent = unused_memory(alloc)?;
     let core = Core::new(

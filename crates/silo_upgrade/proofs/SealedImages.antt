@@ -1,5 +1,5 @@
 -- What each image has while an upgrade is sealed behind its log.
-use Rattle.std.proofs.Common.{◌≡◌, ◌≢◌, ◌⊎◌, inl, inr, ℕ, ◌+◌, ◌-◌, ◌<◌, ◌≤◌, ◌^◌, List, [], ◌∷◌, ◌++◌, length, take, sym, ◌∙◌, ap, subst, arith}
+use Rattle.std.proofs.Common.{◌≡◌, ◌≢◌, ◌⊎◌, inl, inr, ℕ, ◌+◌, ◌-◌, ◌<◌, ◌≤◌, ◌^◌, List, [], ◌∷◌, ◌++◌, length, take, sym, ◌∙◌, ap, subst, arith, length-append}
 use Rattle.std.proofs.lemmas.List.{take-take}
 use Rattle.host_trait.specs.declared.channels.FileId.{FileId}
 use Rattle.host_trait.specs.declared.channels.FileId.TheVariants.{Manager, Program as ProgramFile, Grain}
@@ -17,13 +17,14 @@ use Rattle.log_reading.specs.Steps.{seen_in}
 use Rattle.silo_spec.specs.Silos.{IsSilo}
 use Rattle.silo_spec.specs.Slots.{IsLive, ShowsSilos}
 use Rattle.promise_spec.specs.Programs.{Program}
-use Rattle.promise_spec.specs.Entries.{Log, standing_of, upgraded}
+use Rattle.promise_spec.specs.Entries.{Upgraded, Log, standing_of, upgraded}
 use Rattle.promise_spec.specs.Blocks.{Upgrade, body_of, MayFollow}
-use Rattle.promise_spec.specs.Logs.{IsMagic, StandsUpTo, IsLog}
+use Rattle.promise_spec.specs.Logs.{IsMagic, StandsUpTo, IsLogIn, IsLog}
 use Rattle.promise_spec.specs.Journals.{AllLog}
 use Rattle.promise_spec.specs.Openings.{session_in_file}
 use Rattle.promise_spec.proofs.Batched.{base_program}
 use Rattle.promise_spec.proofs.Growing.{sealed_upgrade}
+use Rattle.promise_spec.proofs.OneLog.{one_log as one_log_of}
 use Rattle.promise_spec.proofs.ReadSessions.{greatest_read}
 use Rattle.promise_spec.proofs.Slots.{live_moves, other_slot}
 use Rattle.promise_laws.proofs.MovedLogs.{stands_behind}
@@ -31,6 +32,18 @@ use Rattle.promise_laws.proofs.MovedLogs.{stands_behind}
 -- a shorter front of equal fronts is equal
 shorter_front : (n m : ℕ) (c d : List ℕ) → n ≤ m → take m c ≡ take m d → take n c ≡ take n d
 shorter_front n m c d low same = sym (take-take n m c low) ∙ ap (λ (l : List ℕ). take n l) same ∙ take-take n m d low
+
+-- a slot's log has one greatest session
+one_session : (slot : ℕ) (image : Image) (log : Log) (x y : IsLogIn Two slot image log) → x.session ≡ y.session
+one_session slot image log x y =
+    let program : x.stands.program ≡ y.stands.program = sym (base_program Two slot image log x.bodies x.gate x.session x.stands) ∙ base_program Two slot image log y.bodies y.gate y.session y.stands in
+    greatest_read Two slot image log x ∙ ap (λ (p : Program). session_in_file Two p (image (Manager slot))) program ∙ sym (greatest_read Two slot image log y)
+
+-- a log with an upgrade more is another one
+pub not_upgraded : (log : Log) (p : Program) → log ≢ upgraded log p
+not_upgraded log p same =
+    let size : length log.entries ≡ length (log.entries ++ Upgraded p ∷ []) = ap (λ (l : Log). length l.entries) same in
+    omega (arith, size, length-append log.entries (Upgraded p ∷ []))
 
 -- Each image has the log, and nothing is pending in the slot's manager file, whose log ends at this gate.
 module _ (slot gate : ℕ) (log : Log) (w : World) (stay : (file : FileId) → MayLeave (w.disk file) (w.disk file).seen) (lasts : w.disk (Manager slot) ≡ settled (w.disk (Manager slot)).seen)
@@ -137,6 +150,16 @@ module _ (slot gate : ℕ) (log : Log) (w : World) (stay : (file : FileId) → M
       unfolding logged_bodies
       log_either (inl logs) = inl (log_still logs)
       log_either (inr logs) = inr (log_upgraded (gate + length (block_of (body_of Two (Upgrade session p)))) logs)
+
+      -- where the image has it, its session is the greatest
+      pub session_greatest : LogsUpTo logged_bodies gate (image (Manager slot)) ⊎ LogsUpTo (logged_bodies ++ body_of Two (Upgrade session p) ∷ []) (gate + length (block_of (body_of Two (Upgrade session p)))) (image (Manager slot))
+          → (has : IsLog slot image (upgraded log p)) → has.is.session ≡ session
+      unfolding logged_bodies
+      session_greatest (inl logs) has = absurd (not_upgraded log p (one_log_of Two Two slot slot image log (upgraded log p) (log_still logs) has))
+      session_greatest (inr logs) has =
+          let next : ℕ = gate + length (block_of (body_of Two (Upgrade session p))) in
+          one_session slot image (upgraded log p) has.is
+          (record { bodies = bodies ++ body_of Two (Upgrade session p) ∷ []; gate = next; session = session; stands = sealed_upgrade Two slot image log bodies gate (stands_at from possible).reached still_stands session (stands_at from possible).later may p next follows logs.blocks; closed = logs.closed })
 
   -- ---- at the end
 

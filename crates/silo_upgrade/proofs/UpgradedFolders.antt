@@ -6,7 +6,7 @@ use Rattle.host_trait.specs.declared.channels.FileId.TheVariants.{Manager}
 use Rattle.host_trait.specs.Disk.{FileState, MayLeave, Tears, settled}
 use Rattle.host_trait.specs.Faults.{NoneFailed}
 use Rattle.host_trait.specs.Runs.{ChangesFile, RunsOnFile}
-use Rattle.host_trait.specs.World.{World, Moment, Disk, Image, Passes, Arrives, moment_of, last_of}
+use Rattle.host_trait.specs.World.{World, Moment, Disk, Image, IsImage, Passes, Arrives, moment_of, last_of}
 use Rattle.host_trait.proofs.Crashes.{settled_only}
 use Rattle.host_trait.proofs.Moments.{met, weaker, same_moment, arrives_still, arrives_then}
 use Rattle.std.proofs.lemmas.List.{append_cancel_left}
@@ -20,9 +20,9 @@ use Rattle.silo_spec.specs.Moments.{IsAsAtEntry, IsUntouched}
 use Rattle.silo_spec.specs.OpenedDisks.{opened_disk, opening_syncs, OnlyOpens}
 use Rattle.silo_spec.specs.Slots.{ShowsSilos}
 use Rattle.promise_spec.specs.Programs.{Program}
-use Rattle.promise_spec.specs.Entries.{Log, standing_of}
+use Rattle.promise_spec.specs.Entries.{Log, standing_of, upgraded}
 use Rattle.promise_spec.specs.Blocks.{MayFollow}
-use Rattle.promise_spec.specs.Logs.{IsMagic}
+use Rattle.promise_spec.specs.Logs.{IsMagic, IsLog}
 use Rattle.promise_spec.specs.Images.{IsWholeFolder}
 use Rattle.promise_spec.specs.Journals.{AllLog}
 use Rattle.promise_spec.specs.Openings.{Reads, opened_as, session_in_file}
@@ -33,7 +33,10 @@ use Rattle.promise_spec.specs.Commands.{IsProgramText}
 use Rattle.promise_spec.specs.Refusals.{IsRefusedBy}
 use Rattle.promise_spec.specs.Upgrading.{IsUpgradeUnopened, IsUpgradeRefused, IsUpgrading, Upgrades, UpgradesAs, IsUpgraded}
 use Rattle.promise_spec.proofs.Lists.{each_of}
+use Rattle.promise_spec.proofs.Batched.{base_program}
+use Rattle.promise_spec.proofs.OneLog.{one_log}
 use Rattle.promise_spec.proofs.Openings.{program_checked}
+use Rattle.promise_spec.proofs.ReadSessions.{greatest_read}
 use Rattle.promise_laws.specs.Closings.{IsBehind}
 use Rattle.promise_laws.specs.Obligations.{Opens}
 use Rattle.promise_laws.proofs.KeptRuns.{opens_whole, gather}
@@ -43,7 +46,7 @@ use Rattle.silo_opening.proofs.InitSteps.{untouched_from}
 use Rattle.silo_opening.proofs.OpeningCalls.{opens_same, opens_untouched}
 use Rattle.silo_upgrade.specs.Endings.{ended_so}
 use Rattle.silo_upgrade.specs.Steps.{HasReadText, upgrade_block, upgrade_body, SealsText, LogsOrUpgrades, HasSealedText}
-use Rattle.silo_upgrade.proofs.SealedImages.{logged_bodies, each_logs, header_still, log_upgraded, log_either, shows_still}
+use Rattle.silo_upgrade.proofs.SealedImages.{logged_bodies, each_logs, header_still, log_upgraded, log_either, not_upgraded, session_greatest, shows_still}
 
 -- The input was the text of a program.
 module _ (manner : Manner) (asked : List (List ℕ)) (f0 : Channel → ℕ) (w0 w1 : World) (text : List ℕ) (types : ProgramTree) (read : HasReadText text w0 w1) (small : length text ≤ 262144) (is : program_in text ≡ Ok types) where
@@ -114,7 +117,7 @@ module _ (manner : Manner) (asked : List (List ℕ)) (f0 : Channel → ℕ) (w0 
 
       -- ---- the upgrade is sealed
 
-      module _ (follows : GoesOnFrom (program_tree o.checked) types) (w3 : World) (f3 : Channel → ℕ) (e : Ending) (low : o.session + 1 < 2 ^ 63) (run : RunsOnFile (Manager o.slot) (Tears o.gate_at (length (upgrade_block (o.session + 1) text) + 1)) 2 w2 w3) where
+      module _ (follows : GoesOnFrom (program_tree o.checked) types) (w3 : World) (f3 : Channel → ℕ) (e : Ending) (session : ℕ) (next : session ≡ o.session + 1) (low : session < 2 ^ 63) (run : RunsOnFile (Manager o.slot) (Tears o.gate_at (length (upgrade_block session text) + 1)) 2 w2 w3) where
         abbrev r : Observed
         r = ended_so manner asked w0 w3 f0 f3 e
 
@@ -159,14 +162,14 @@ module _ (manner : Manner) (asked : List (List ℕ)) (f0 : Channel → ℕ) (w0 
         ends = ap (λ (i : Image). gate_of (i (Manager o.slot))) (opens_same (opening_syncs (seen_in w1.disk)) w1 w2 opens) ∙ left.opened.gate
 
         -- no session of the log is above the upgrade's
-        after : session_in_file Two log.base.program (w2.disk (Manager o.slot)).seen ≤ o.session + 1
+        after : session_in_file Two log.base.program (w2.disk (Manager o.slot)).seen ≤ session
         after =
             let first : log.base.program ≡ left.opened.first = ap (λ (l : Log). l.base.program) left.opened.log_is in
             let file : (w2.disk (Manager o.slot)).seen ≡ seen_in w1.disk (Manager o.slot) = ap (λ (i : Image). i (Manager o.slot)) (opens_same (opening_syncs (seen_in w1.disk)) w1 w2 opens) in
             let same : session_in_file Two log.base.program (w2.disk (Manager o.slot)).seen ≡ o.session = (λ i. session_in_file Two (first i) (file i)) ∙ sym left.opened.session in
-            omega (arith, same)
+            omega (arith, same, next)
 
-        module _ (seals : SealsText o.slot o.gate_at (o.session + 1) text w2 w3) (done : e ≡ Done → HasSealedText o.slot o.gate_at (o.session + 1) text w2 w3) (stay : (file : FileId) → MayLeave (w0.disk file) (w0.disk file).seen)
+        module _ (seals : SealsText o.slot o.gate_at session text w2 w3) (done : e ≡ Done → HasSealedText o.slot o.gate_at session text w2 w3) (stay : (file : FileId) → MayLeave (w0.disk file) (w0.disk file).seen)
             (stay_too : (file : FileId) → MayLeave (w2.disk file) (w2.disk file).seen) (whole : IsWholeFolder w0) where
           opened : Opens r c
           opened = opens_whole p r c w2 behind whole stay stay_too
@@ -178,21 +181,21 @@ module _ (manner : Manner) (asked : List (List ℕ)) (f0 : Channel → ℕ) (w0 
           shown image is n low short silo = whole.shows image (untouched.now.images image is) n low (subst (λ (l : List ℕ). length l < 16) (untouched.seen (Manager n)) short) silo
 
           abbrev bodies : List (List ℕ)
-          bodies = logged_bodies o.slot o.gate_at log w2 stay_too lasts all ends (o.session + 1) low after
+          bodies = logged_bodies o.slot o.gate_at log w2 stay_too lasts all ends session low after
 
-          sealed : LogsOrUpgrades o.slot o.gate_at (o.session + 1) text bodies w2 w3
-          sealed = seals bodies (each_logs o.slot o.gate_at log w2 stay_too lasts all ends (o.session + 1) low after)
+          sealed : LogsOrUpgrades o.slot o.gate_at session text bodies w2 w3
+          sealed = seals bodies (each_logs o.slot o.gate_at log w2 stay_too lasts all ends session low after)
 
           -- a moment of it
           abbrev IsAMoment : Moment → Type 0
-          IsAMoment m = ChangesFile (Manager o.slot) (Tears o.gate_at (length (upgrade_block (o.session + 1) text) + 1)) w2 m × EachLogsOrMore bodies (upgrade_body (o.session + 1) text) o.gate_at (Manager o.slot) m.disk
+          IsAMoment m = ChangesFile (Manager o.slot) (Tears o.gate_at (length (upgrade_block session text) + 1)) w2 m × EachLogsOrMore bodies (upgrade_body session text) o.gate_at (Manager o.slot) m.disk
 
           upgrading : (m : Moment) → IsAMoment m → IsUpgrading o.slot log p r m
           upgrading m at = record {
             quiet = at.0.output ∙ untouched.now.quiet;
             others = λ file other. at.0.others file other ∙ ap (λ (d : Disk). d file) disk_is;
-            header = λ image is. header_still o.slot o.gate_at log w2 stay_too lasts all ends (o.session + 1) low after (length (upgrade_block (o.session + 1) text) + 1) m at.0 image is ∙ ap (take 15) (untouched.seen (Manager o.slot));
-            either = λ image is. log_either o.slot o.gate_at log w2 stay_too lasts all ends (o.session + 1) low after (length (upgrade_block (o.session + 1) text) + 1) m at.0 image is p may_follow (at.1 (image (Manager o.slot)) (is (Manager o.slot)));
+            header = λ image is. header_still o.slot o.gate_at log w2 stay_too lasts all ends session low after (length (upgrade_block session text) + 1) m at.0 image is ∙ ap (take 15) (untouched.seen (Manager o.slot));
+            either = λ image is. log_either o.slot o.gate_at log w2 stay_too lasts all ends session low after (length (upgrade_block session text) + 1) m at.0 image is p may_follow (at.1 (image (Manager o.slot)) (is (Manager o.slot)));
           }
 
           first : IsUpgrading o.slot log p r (moment_of w2)
@@ -205,7 +208,30 @@ module _ (manner : Manner) (asked : List (List ℕ)) (f0 : Channel → ℕ) (w0 
 
           passes : Passes (IsUpgrading o.slot log p r) w2.past w3.past
           passes = weaker IsAMoment (IsUpgrading o.slot log p r) upgrading
-              (met (ChangesFile (Manager o.slot) (Tears o.gate_at (length (upgrade_block (o.session + 1) text) + 1)) w2) (λ m. EachLogsOrMore bodies (upgrade_body (o.session + 1) text) o.gate_at (Manager o.slot) m.disk) run.moments sealed.moments)
+              (met (ChangesFile (Manager o.slot) (Tears o.gate_at (length (upgrade_block session text) + 1)) w2) (λ m. EachLogsOrMore bodies (upgrade_body session text) o.gate_at (Manager o.slot) m.disk) run.moments sealed.moments)
+
+          -- the upgrade's session is the greatest of an image that has the upgrade
+          abbrev IsGreatest : Moment → Type 0
+          IsGreatest m = (image : Image) → IsImage m.disk image → (has : IsLog o.slot image (upgraded log p)) → has.is.session ≡ session
+
+          greatest : (m : Moment) → IsAMoment m → IsGreatest m
+          greatest m at image is has = session_greatest o.slot o.gate_at log w2 stay_too lasts all ends session low after (length (upgrade_block session text) + 1) m at.0 image is p may_follow (at.1 (image (Manager o.slot)) (is (Manager o.slot))) has
+
+          first_greatest : IsGreatest (moment_of w2)
+          first_greatest image is has = absurd (not_upgraded log p (one_log Two Two o.slot o.slot image log (upgraded log p) (all image is) has))
+
+          greatest_passes : Passes IsGreatest w2.past w3.past
+          greatest_passes = weaker IsAMoment IsGreatest greatest
+              (met (ChangesFile (Manager o.slot) (Tears o.gate_at (length (upgrade_block session text) + 1)) w2) (λ m. EachLogsOrMore bodies (upgrade_body session text) o.gate_at (Manager o.slot) m.disk) run.moments sealed.moments)
+
+          -- and follows the greatest that was read
+          follows_read : session ≡ opened.read.is.session + 1
+          follows_read =
+              let was = opened.read.is in
+              let program : was.stands.program ≡ left.opened.first = sym (base_program Two o.slot (seen_in w0.disk) log was.bodies was.gate was.session was.stands) ∙ ap (λ (l : Log). l.base.program) left.opened.log_is in
+              let file : seen_in w0.disk (Manager o.slot) ≡ seen_in w1.disk (Manager o.slot) = ap (λ (i : Image). i (Manager o.slot)) (sym seen_same) in
+              let same : was.session ≡ o.session = greatest_read Two o.slot (seen_in w0.disk) log was ∙ (λ i. session_in_file Two (program i) (file i)) ∙ sym left.opened.session in
+              omega (arith, same, next)
 
           pub upgrades : Upgrades o.slot log p r
           upgrades = record {
@@ -215,11 +241,12 @@ module _ (manner : Manner) (asked : List (List ℕ)) (f0 : Channel → ℕ) (w0 
             past = opened.past;
             before = λ m there. each_of (IsAsAtEntry w0) untouched.moments.more m untouched.moments.each there;
             moments = gather p r c w2 behind (IsUpgrading o.slot log p r) first passes (upgrading (moment_of w3) (run.now, sealed.now));
-            shows = shows_still o.slot o.gate_at log w2 stay_too lasts all ends (o.session + 1) low after (length (upgrade_block (o.session + 1) text) + 1) 2 w3 run shown;
+            session = λ image may has. gather p r c w2 behind IsGreatest first_greatest greatest_passes (greatest (moment_of w3) (run.now, sealed.now)) may.moment may.member image may.left has ∙ follows_read;
+            shows = shows_still o.slot o.gate_at log w2 stay_too lasts all ends session low after (length (upgrade_block session text) + 1) 2 w3 run shown;
             done = λ end image is.
                 let has = done end in
-                log_upgraded o.slot o.gate_at log w2 stay_too lasts all ends (o.session + 1) low after (length (upgrade_block (o.session + 1) text) + 1) (moment_of w3) run.now image is p may_follow (o.gate_at + length (upgrade_block (o.session + 1) text))
-                (has.logs bodies (each_logs o.slot o.gate_at log w2 stay_too lasts all ends (o.session + 1) low after) (image (Manager o.slot)) (is (Manager o.slot)));
+                log_upgraded o.slot o.gate_at log w2 stay_too lasts all ends session low after (length (upgrade_block session text) + 1) (moment_of w3) run.now image is p may_follow (o.gate_at + length (upgrade_block session text))
+                (has.logs bodies (each_logs o.slot o.gate_at log w2 stay_too lasts all ends session low after) (image (Manager o.slot)) (is (Manager o.slot)));
           }
 
         -- the log was upgraded, as far as the call came
@@ -238,7 +265,7 @@ module _ (manner : Manner) (asked : List (List ℕ)) (f0 : Channel → ℕ) (w0 
         }
 
         -- done, with two syncs
-        pub done_so : HasSealedText o.slot o.gate_at (o.session + 1) text w2 w3 → w3.syncs ≡ w0.syncs + opening_syncs (seen_in w0.disk) + 2
+        pub done_so : HasSealedText o.slot o.gate_at session text w2 w3 → w3.syncs ≡ w0.syncs + opening_syncs (seen_in w0.disk) + 2
         done_so has = omega (arith, has.count, syncs_there)
 
         -- and with nothing written

@@ -13,9 +13,6 @@ use script_check::compare;
 use silo_opening::open_silo;
 use std::alloc::Global;
 
-// The greatest session of a log, which none can follow.
-const LAST_SESSION: u64 = (1 << 63) - 1;
-
 /// Reads a program's text from the input, and brings it into force in the host's silo, as the last entry of its log. States are carried
 /// where they are read.
 ///
@@ -47,14 +44,13 @@ pub fn upgrade<H: Host>(alloc: Global, host: &mut H) -> Result<(), UpgradeEnd>
         Ok(opened) => opened,
         Err(fault) => return Err(UpgradeEnd::Unopened(fault)),
     };
-    if opened.session == LAST_SESSION {
+    let Some(session) = opened.next_session() else {
         return Err(UpgradeEnd::Memory);
-    }
+    };
     let end = text.len() as u32;
     if let Err(fault) = compare(&opened.checked, &checked, end) {
         return Err(UpgradeEnd::Refused { at: fault.at });
     }
-    let session = opened.session + 1;
     match seal_upgrade(alloc, host, opened.slot, opened.gate_at, &text, session) {
         Ok(()) => Ok(()),
         Err(end) => Err(end),

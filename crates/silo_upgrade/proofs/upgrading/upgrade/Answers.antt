@@ -1,4 +1,4 @@
-use Rattle.std.proofs.Common.{rules, ◌≡◌, ◌≤◌, ◌<◌, ◌+◌, ◌^◌, arith, inl, inr, ℕ, List, length, Some, Ok, refl, sym, ap, subst, ◌∙◌}
+use Rattle.std.proofs.Common.{rules, ◌≡◌, ◌≤◌, ◌<◌, ◌+◌, ◌^◌, inl, inr, ℕ, List, length, Some, Ok, refl, sym, ap, subst, ◌∙◌}
 use Rattle.script_tree.specs.Programs.{ProgramTree, program_tree}
 use Rattle.script_check.specs.Comparison.{GoesOnFrom, compared}
 use Rattle.program_file.specs.Programs.{program_in}
@@ -27,8 +27,8 @@ returns-in-Err-open_silo-clause-upgrades g c told manner asked =
     inr (inl (is_unopened manner asked f0 w0 w1 text types (c.in-Ok.ensures.read told) small c.in-Ok.ensures.program w2 (c.open_silo.ensures.only told) f2 (open_ending fault)
     (c.in-Err-open_silo.ensures.refused told) (calm_before (open_ending fault) f0 f1 f2 c.in-Ok.ensures.calm (open_failed f1 f2 fault c.in-Err-open_silo.ensures.fault))))
 
-pub returns-then-opened-eq-LAST_SESSION-clause-upgrades : goal.returns-then-opened-eq-LAST_SESSION-clause-upgrades
-returns-then-opened-eq-LAST_SESSION-clause-upgrades g c told manner asked =
+pub returns-in_default-clause-upgrades : goal.returns-in_default-clause-upgrades
+returns-in_default-clause-upgrades g c told manner asked =
     let w0 = g.H.Host.world c.args.host.now in
     let w1 = g.H.Host.world c.read_program.new.host in
     let w2 = g.H.Host.world c.open_silo.new.host in
@@ -73,12 +73,14 @@ returns-in-Ok-seal_upgrade-clause-upgrades g c told manner asked =
     let opens = c.open_silo.ensures.only told in
     let left = c.in-Ok-open_silo.ensures.opened told in
     let run = c.seal_upgrade.ensures.run told in
-    let low : o.session + 1 < 2 ^ 63 = search (rules, arith) in
+    let session : ℕ = c.in-Some.session in
+    let next : session ≡ o.session + 1 = c.in-Some.ensures.next.0 in
+    let low : session < 2 ^ 63 = c.in-Some.ensures.next.1 in
     let has = c.in-Ok-seal_upgrade.ensures.done told in
-    inr (inr (inr (is_upgraded manner asked f0 w0 w1 text types read small is w2 opens o left follows w3 f3 Done low run
-    (done_so manner asked f0 w0 w1 text types read small is w2 opens o left follows w3 f3 Done low run has)
+    inr (inr (inr (is_upgraded manner asked f0 w0 w1 text types read small is w2 opens o left follows w3 f3 Done session next low run
+    (done_so manner asked f0 w0 w1 text types read small is w2 opens o left follows w3 f3 Done session next low run has)
     (λ channel. c.in-Ok-seal_upgrade.ensures.calm channel ∙ (c.in-Ok-open_silo.ensures.calm channel ∙ c.in-Ok.ensures.calm channel))
-    (upgrades manner asked f0 w0 w1 text types read small is w2 opens o left follows w3 f3 Done low run (c.seal_upgrade.ensures.logs told) (λ done. has)
+    (upgrades manner asked f0 w0 w1 text types read small is w2 opens o left follows w3 f3 Done session next low run (c.seal_upgrade.ensures.logs told) (λ done. has)
     (λ file. g.met.H.Host.seen_may_stay c.args.host.now file told) (λ file. g.met.H.Host.seen_may_stay c.open_silo.new.host file told)))))
 
 pub returns-clause-upgrades : goal.returns-clause-upgrades
@@ -102,13 +104,15 @@ returns-clause-upgrades g c told manner asked =
     let opens = c.open_silo.ensures.only told in
     let left = c.in-Ok-open_silo.ensures.opened told in
     let run = c.seal_upgrade.ensures.run told in
-    let low : o.session + 1 < 2 ^ 63 = search (rules, arith) in
+    let session : ℕ = c.in-Some.session in
+    let next : session ≡ o.session + 1 = c.in-Some.ensures.next.0 in
+    let low : session < 2 ^ 63 = c.in-Some.ensures.next.1 in
     let ends_as : UpgradesAs (ending_for e) o.slot (ended_so manner asked w0 w3 f0 f3 (ending_for e)) = elim c.in-Err-seal_upgrade.ensures.stopped [
       | inl same ↦ subst (λ (x : UpgradeEnd). UpgradesAs (ending_for x) o.slot (ended_so manner asked w0 w3 f0 f3 (ending_for x))) (sym same) refl
       | inr want ↦ subst (λ (x : UpgradeEnd). UpgradesAs (ending_for x) o.slot (ended_so manner asked w0 w3 f0 f3 (ending_for x))) (sym want.0)
-          (nothing_so manner asked f0 w0 w1 text types read small is w2 opens o left follows w3 f3 (ending_for e) low run (ap g.H.Host.world want.1))
+          (nothing_so manner asked f0 w0 w1 text types read small is w2 opens o left follows w3 f3 (ending_for e) session next low run (ap g.H.Host.world want.1))
     ] in
-    inr (inr (inr (is_upgraded manner asked f0 w0 w1 text types read small is w2 opens o left follows w3 f3 (ending_for e) low run ends_as
+    inr (inr (inr (is_upgraded manner asked f0 w0 w1 text types read small is w2 opens o left follows w3 f3 (ending_for e) session next low run ends_as
     (calm_before (ending_for e) f0 f2 f3 (λ channel. c.in-Ok-open_silo.ensures.calm channel ∙ c.in-Ok.ensures.calm channel) c.in-Err-seal_upgrade.ensures.fault)
-    (upgrades manner asked f0 w0 w1 text types read small is w2 opens o left follows w3 f3 (ending_for e) low run (c.seal_upgrade.ensures.logs told) (λ done. absurd (never_done e done))
+    (upgrades manner asked f0 w0 w1 text types read small is w2 opens o left follows w3 f3 (ending_for e) session next low run (c.seal_upgrade.ensures.logs told) (λ done. absurd (never_done e done))
     (λ file. g.met.H.Host.seen_may_stay c.args.host.now file told) (λ file. g.met.H.Host.seen_may_stay c.open_silo.new.host file told)))))
