@@ -10,12 +10,12 @@
 # Measured quiet, on a processor of 2.7 GHz with a memory file system: 95,000 to 99,000 a second at 20,000, and 98,000 at 100,000.
 # Measured beside other work, twice as much as the four processors carry: 14 to 21 us of processor time for each transfer at width 64
 # where syncs cost nothing. bench/peers.py has SQLite beside it.
-# What holds a transfer, by callgrind over 3,064 of them at width 64: 145,000 instructions each, of which
+# What holds a transfer, by callgrind over 3,064 of them at width 64: 150,000 instructions each, of which
+#   23,000 are the core: its events, its looks, and what it asks of grains, units and batches
 #   22,000 clear room, 16,000 of them the 16 KiB in which a line is read (callgrind counts each byte; by samples it is 2 % of the time)
-#   20,000 are the core: events 6,200, looks 4,100, and what it asks of grains, units and batches
-#   20,000 are the standard library, without trees, 16,000 look grains up in trees, 15,000 allocate and free, about 60 times, 8,000 copy
-#   14,000 run the script, 10,000 read the line and write the reply, 7,000 are the agents, 6,000 the settler, the log and
-#   the host's calls, 5,000 the choice of who moves
+#   18,000 are the standard library, without trees, 12,000 look grains up in trees, 16,000 allocate and free, about 60 times, 13,000 copy
+#   13,000 run the script, 13,000 are the settler, the log and the host, 7,000 read the line and write the reply, 7,000 choose who
+#   moves, 5,000 are the agents
 # By samples a seventh of the time is the system's: the file of each grain that a batch wrote is looked for by its name, written and synced.
 top=$(cd "$(dirname "${BASH_SOURCE[0]}")/.." && pwd)
 [ -n "${SILO:-}" ] || "$top/silo" </dev/null >/dev/null 2>&1

@@ -5,10 +5,10 @@
 # they cost nothing. Prints for each the transfers a second, the processor time that the run spent, and how many were aborted.
 # Fails where a run doesn't end with 0, leaves a line without a reply, or makes or loses money.
 # Wanted where syncs are free: 2 workers at least 1.3 times as many a second as 1, on four processors; and no run with more than 1.5
-# times the processor time of the run on one thread. Of seven runs none gave either (docs/OPERATIONS.md): all
-# threads reach the core by one turn, which settling one unit takes about 16 times. By a profile of 2 workers there, of all samples
-# 36 % wait for the turn (17 % look again at once, 19 % give the processor away), and 30 % are of the thread that settles. More threads
-# wait more, and waiting takes processors.
+# times the processor time of the run on one thread. Of seven runs one gave the first, and two the second (docs/OPERATIONS.md). By samples
+# the thread that settles runs 92 to 100 % of the time, whatever the number of workers, since it does four of a transfer's ten events and
+# every call on a file: that holds them. All threads reach the core by one turn, which a transfer takes 19 times: of all samples 15 %
+# wait for it by one worker, 24 % by two and 26 % by four. More threads wait more, and waiting takes processors.
 top=$(cd "$(dirname "${BASH_SOURCE[0]}")/.." && pwd)
 [ -n "${SILO:-}" ] || "$top/silo" </dev/null >/dev/null 2>&1
 exec python3 - "$top" "${SILO:-$top/crates/silo/out/silo}" "${1:-20000}" "${2:-/tmp}" "${3:-/dev/shm}" <<'END'

@@ -27,9 +27,9 @@ with tempfile.TemporaryDirectory() as room:
     for words, wanted in (
         (["./silo", "ba"], ["bank", "barn"]),
         (["silo", "--"], ["--help"]),
-        (["silo", "bank", ""], ["audit", "compact", "history", "migrate", "run", "show", "upgrade"]),
+        (["silo", "bank", ""], ["audit", "check", "compact", "history", "migrate", "run", "show", "upgrade"]),
         (["silo", "bank", "h"], ["history"]),
-        (["silo", "empty", ""], ["init", "load"]),
+        (["silo", "empty", ""], ["check", "init", "load"]),
         (["silo", "bank", "run", ""], ["--turns", "--width", "--workers"]),
         (["silo", "bank", "run", "--wi"], ["--width"]),
         (["silo", "bank", "run", "--width", "6"], ["64"]),

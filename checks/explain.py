@@ -75,7 +75,7 @@ MORE = [
     ("= for ==", within("if n = 1 { return 1; }"), "= 1", "`=` gives a value: `==` compares"),
     ("one &", within("return n & 1;"), "& 1", "write `&&`"),
     ("and", within("return n and 1;"), "and", "write `&&`"),
-    ("for", within("for n { }"), "n { }", "`n` can't stand here: is a `;` or an operator missing before it?"),
+    ("for", within("for n { }"), "n { }", "there is no `for`: write `while`"),
     ("a list", within("return [1];"), "[1]", "there are no lists: number the grains instead"),
     ("fail without a text", within("fail n;"), "n;", 'a fault has a text: `fail "no";`'),
     ("a type twice", "type a { } type a { }", "a { }", "`a` is declared already, or is one too many"),

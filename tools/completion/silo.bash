@@ -19,8 +19,8 @@ _silo() {
     return
   fi
   if [ "$COMP_CWORD" -eq 2 ]; then
-    found="init load"
-    [ ! -e "$folder/manager-0.otx" ] || found="run show history audit compact upgrade migrate"
+    found="init load check"
+    [ ! -e "$folder/manager-0.otx" ] || found="run show history audit compact upgrade migrate check"
     mapfile -t COMPREPLY < <(compgen -W "$found" -- "$word")
     return
   fi

@@ -29,15 +29,14 @@ import subprocess
 
 __all__ = "Silo Sent SiloError Fault Bad Aborted InDoubt Unanswered Ended records batches find_program LINE_LIMIT INPUT_LIMIT".split()
 
-# The most bytes that the input of a run has.
 LINE_LIMIT = 65_536  # the most bytes of a request line
 INPUT_LIMIT = 16_777_216  # the most bytes that one run is given here: what a run takes of memory grows with its lines
 
 UPGRADE = 2**32 - 1  # what stands in an upgrade where a batch has its count
 
 DISK = 6
-# With these numbers nothing was carried.
-NOT_CARRIED = (2, 4, 7, 8, 9, 10, 11)
+# With these numbers and no reply nothing was carried.
+NOT_CARRIED = (2, 4, 7, 8, 9, 10, 11, 14)
 AFTER_DISK = 'before anything else is run on this folder, see "After a failed sync" in docs/OPERATIONS.md\n'
 
 MEANS = {
@@ -45,7 +44,7 @@ MEANS = {
     "shape": "a request has args and call, and nothing else",
     "grain": "no such type, or the key isn't 0 to 4294967295",
     "method": "the type has no such method",
-    "args": "the method takes another number of arguments, or one is neither a whole number of 64 bits nor a text of at most 256 bytes",
+    "args": "the method takes another number of arguments, or one is neither a whole number of 64 bits nor a text of at most 4,096 bytes",
 }
 
 # What became of the calls of one run: the program's number and its text; a reply for each call in the order of the calls, None where
@@ -340,7 +339,7 @@ class Silo:
         self._is_in_doubt = any("in_doubt" in reply for reply in found)
         if number == DISK:
             text += AFTER_DISK
-        elif number in NOT_CARRIED:
+        elif number in NOT_CARRIED and not found:
             others = []
         elif number != 0 or retries and any(map(may_be_sent_again, found)):
             try:
