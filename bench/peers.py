@@ -7,7 +7,10 @@ they are real, with a commit for each transfer and with 64 in one. The files hav
 runs of the silo at width 64, at FREE and at REAL. Each is timed three times, in turn, and the best is told, with the ratio to its
 peer. It fails where a row or a reply is missing, or money is made or lost. SQLite keeps the balances alone here; a silo keeps each call
 with its reply too, reads its lines from a file and writes its replies to one, and its time is that of the whole process.
-Wanted: at FREE at least 1.5 times as many a second as SQLite in memory, and at REAL at least as many as SQLite with a commit for each."""
+Wanted: at FREE at least 1.5 times as many a second as SQLite in memory, and at REAL at least as many as SQLite with a commit for each.
+What holds the first: bench/transfers.sh has what a transfer is made of. What holds the second is the number of syncs: 64 transfers among
+64 accounts write the files of some 56 grains, each of which is synced, and the log once, so 0.89 syncs for each (strace counts them), each of
+another file; SQLite syncs its one log once for each."""
 import os
 import sqlite3
 import subprocess
