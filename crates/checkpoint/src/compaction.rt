@@ -1,6 +1,6 @@
-ghost use Rattle.std.specs.Prelude.{◌≡◌, ◌-◌, ℕ, List as AList, IsTrue, IfErr, OnOk, IsErrOf, None, Ok, map};
+ghost use Rattle.std.specs.Prelude.{◌≡◌, ◌-◌, ℕ, List as AList, IsTrue, OnOk, IsErrOf, None, Ok, map};
 ghost use Rattle.host_trait.specs.Files.{StaysReady};
-ghost use Rattle.host_trait.specs.Faults.{NoneFailed};
+ghost use Rattle.host_trait.specs.Faults.{HasCalled};
 ghost use Rattle.host_trait.specs.declared.channels.FileId.{FileId as AFile};
 ghost use Rattle.host_trait.specs.declared.channels.FileId.TheVariants.{Manager};
 ghost use Rattle.log_reading.specs.declared.faults.FolderFault.{FolderFault as AFault};
@@ -72,9 +72,7 @@ fn fill<H: Host>(
         → AreThere next.live (shapes_in_turn (programs_in programs.now)) (seen_in (H.world host.old).disk) next.latest → ⊥ }
 
     // A fault of a file is answered exactly where a call on it failed.
-    ensures calm { OnOk result (NoneFailed (H.faults host.old) (H.faults host.new)) }
-    ensures fault { IfErr result (λ e. ReadFaulted e (H.faults host.old) (H.faults host.new)) }
-    ensures ready { StaysReady (H.is_ready host.old) (H.is_ready host.new) }
+    ensures calls { HasCalled ReadFaulted result H.is_ready H.faults host.old host.new }
 {
     let slot = 1 - next.live;
     let mut latest = next.latest.into_vec();

@@ -1,9 +1,9 @@
 // The grains' files of the live slot, copied into the other one.
-ghost use Rattle.std.specs.Prelude.{◌≡◌, ◌≢◌, ◌+◌, ◌-◌, ◌^◌, ◌<◌, ◌≤◌, ℕ, Some, length, take, drop, IsTrue, IfOk, IfErr, OnOk, IsErrOf};
+ghost use Rattle.std.specs.Prelude.{◌≡◌, ◌≢◌, ◌+◌, ◌-◌, ◌^◌, ◌<◌, ◌≤◌, ℕ, Some, length, take, drop, IsTrue, IfOk, OnOk, IsErrOf};
 ghost use Rattle.std.specs.List.{AllByRecursion};
 ghost use Rattle.base_types.specs.Stores.{end_in};
-ghost use Rattle.host_trait.specs.Files.{HasSlot, MayAsk, StaysReady};
-ghost use Rattle.host_trait.specs.Faults.{NoneFailed};
+ghost use Rattle.host_trait.specs.Files.{HasSlot, MayAsk};
+ghost use Rattle.host_trait.specs.Faults.{HasCalled};
 ghost use Rattle.host_trait.specs.Runs.{OnlyAsked, RunsOnFile};
 ghost use Rattle.host_trait.specs.declared.channels.FileId.{FileId as AFile};
 ghost use Rattle.host_trait.specs.declared.channels.FileId.TheVariants.{Grain};
@@ -44,9 +44,7 @@ fn read_piece<H: Host>(
     ensures damaged { (other : AFile) (place : ℕ) → IsErrOf result (AFault.Damaged other place) → IsTrue H.tells
         → length ((H.world host.old).disk file).seen - at < size }
     ensures asked { IsTrue H.tells → OnlyAsked (H.world host.old) (H.world host.new) }
-    ensures calm { OnOk result (NoneFailed (H.faults host.old) (H.faults host.new)) }
-    ensures fault { IfErr result (λ e. ReadFaulted e (H.faults host.old) (H.faults host.new)) }
-    ensures ready { StaysReady (H.is_ready host.old) (H.is_ready host.new) }
+    ensures calls { HasCalled ReadFaulted result H.is_ready H.faults host.old host.new }
 {
     let mut bytes = vec![in alloc; 0u8; size]?;
     match read_full(host, file, at, &mut bytes) {
@@ -75,9 +73,7 @@ fn copy_piece<H: Host>(
     ensures bound { OnOk result (at + size < 2 ^ 63) }
     ensures damaged { (file : AFile) (place : ℕ) → IsErrOf result (AFault.Damaged file place) → IsTrue H.tells
         → at + size ≤ length ((H.world host.old).disk from).seen → ⊥ }
-    ensures calm { OnOk result (NoneFailed (H.faults host.old) (H.faults host.new)) }
-    ensures fault { IfErr result (λ e. ReadFaulted e (H.faults host.old) (H.faults host.new)) }
-    ensures ready { StaysReady (H.is_ready host.old) (H.is_ready host.new) }
+    ensures calls { HasCalled ReadFaulted result H.is_ready H.faults host.old host.new }
 {
     let bytes = read_piece(alloc, host, from, at, size)?;
     match host.write_at(to, at, &bytes) {
@@ -102,9 +98,7 @@ fn copy_front<H: Host>(
         → IsCopyOf end ((H.world host.old).disk from).seen ((H.world host.new).disk to)) }
     ensures damaged { (file : AFile) (place : ℕ) → IsErrOf result (AFault.Damaged file place) → IsTrue H.tells
         → end ≤ length ((H.world host.old).disk from).seen → ⊥ }
-    ensures calm { OnOk result (NoneFailed (H.faults host.old) (H.faults host.new)) }
-    ensures fault { IfErr result (λ e. ReadFaulted e (H.faults host.old) (H.faults host.new)) }
-    ensures ready { StaysReady (H.is_ready host.old) (H.is_ready host.new) }
+    ensures calls { HasCalled ReadFaulted result H.is_ready H.faults host.old host.new }
 {
     let mut at = 0;
     while at < end {
@@ -132,9 +126,7 @@ fn copy_file<H: Host>(
         → IsCopyOf end ((H.world host.old).disk (Grain live grain)).seen ((H.world host.new).disk (Grain (1 - live) grain))) }
     ensures damaged { (file : AFile) (place : ℕ) → IsErrOf result (AFault.Damaged file place) → IsTrue H.tells
         → end ≤ length ((H.world host.old).disk (Grain live grain)).seen → ⊥ }
-    ensures calm { OnOk result (NoneFailed (H.faults host.old) (H.faults host.new)) }
-    ensures fault { IfErr result (λ e. ReadFaulted e (H.faults host.old) (H.faults host.new)) }
-    ensures ready { StaysReady (H.is_ready host.old) (H.is_ready host.new) }
+    ensures calls { HasCalled ReadFaulted result H.is_ready H.faults host.old host.new }
 {
     let from = FileId::Grain { slot: live, grain };
     let to = FileId::Grain {
@@ -160,9 +152,7 @@ fn copy_named<H: Host>(
     ensures copied { OnOk result (IsTrue H.tells → IsCopiedFile live ends.now (H.world host.old).disk (H.world host.new).disk grain) }
     ensures damaged { (file : AFile) (place : ℕ) → IsErrOf result (AFault.Damaged file place) → IsTrue H.tells
         → ((end : ℕ) → end_in ends.now grain ≡ Some end → end ≤ length ((H.world host.old).disk (Grain live grain)).seen) → ⊥ }
-    ensures calm { OnOk result (NoneFailed (H.faults host.old) (H.faults host.new)) }
-    ensures fault { IfErr result (λ e. ReadFaulted e (H.faults host.old) (H.faults host.new)) }
-    ensures ready { StaysReady (H.is_ready host.old) (H.is_ready host.new) }
+    ensures calls { HasCalled ReadFaulted result H.is_ready H.faults host.old host.new }
 {
     match ends.get(grain) {
         Some(end) => copy_file(alloc, host, live, grain, end),
@@ -191,9 +181,7 @@ pub fn copy_files<H: Host>(
     ensures damaged { (file : AFile) (place : ℕ) → IsErrOf result (AFault.Damaged file place) → IsTrue H.tells
         → AreEndsWithin live ends.now (H.world host.old).disk → ⊥ }
 
-    ensures calm { OnOk result (NoneFailed (H.faults host.old) (H.faults host.new)) }
-    ensures fault { IfErr result (λ e. ReadFaulted e (H.faults host.old) (H.faults host.new)) }
-    ensures ready { StaysReady (H.is_ready host.old) (H.is_ready host.new) }
+    ensures calls { HasCalled ReadFaulted result H.is_ready H.faults host.old host.new }
 {
     for grain in grains {
         copy_named(alloc, host, live, ends, *grain)?;

@@ -1,7 +1,6 @@
 // The program file of the live slot, copied into the other one.
-ghost use Rattle.std.specs.Prelude.{◌≡◌, ◌-◌, ◌≤◌, ℕ, List, IsTrue, IfErr, OnOk, IsErrOf, Ok};
-ghost use Rattle.host_trait.specs.Files.{StaysReady};
-ghost use Rattle.host_trait.specs.Faults.{NoneFailed};
+ghost use Rattle.std.specs.Prelude.{◌≡◌, ◌-◌, ◌≤◌, ℕ, List, IsTrue, OnOk, IsErrOf, Ok};
+ghost use Rattle.host_trait.specs.Faults.{HasCalled};
 ghost use Rattle.host_trait.specs.Runs.{RunsOnFile};
 ghost use Rattle.host_trait.specs.declared.channels.FileId.{FileId as AFile};
 ghost use Rattle.host_trait.specs.declared.channels.FileId.TheVariants.{Program as ProgramFile};
@@ -28,9 +27,7 @@ pub fn copy_program<H: Host>(alloc: Global, host: &mut H, live: u8) -> Result<()
     ensures damaged { (file : AFile) (place : ℕ) → IsErrOf result (AFault.Damaged file place) → IsTrue H.tells → (text : List ℕ)
         → text_in_file ((H.world host.old).disk (ProgramFile live)).seen ≡ Ok text → ⊥ }
 
-    ensures calm { OnOk result (NoneFailed (H.faults host.old) (H.faults host.new)) }
-    ensures fault { IfErr result (λ e. ReadFaulted e (H.faults host.old) (H.faults host.new)) }
-    ensures ready { StaysReady (H.is_ready host.old) (H.is_ready host.new) }
+    ensures calls { HasCalled ReadFaulted result H.is_ready H.faults host.old host.new }
 {
     let from = FileId::Program { slot: live };
     let to = FileId::Program { slot: 1 - live };

@@ -1,9 +1,9 @@
 // Each grain's last version, copied into the files of the slot that isn't live, as the program in force has it.
-ghost use Rattle.std.specs.Prelude.{◌≡◌, ◌-◌, ◌≤◌, ◌∷◌, [], ℕ, None, map, length, IsTrue, IfOk, IfErr, OnOk, IsErrOf, Ok};
+ghost use Rattle.std.specs.Prelude.{◌≡◌, ◌-◌, ◌≤◌, ◌∷◌, [], ℕ, None, map, length, IsTrue, IfOk, OnOk, IsErrOf, Ok};
 ghost use Rattle.std.specs.List.{AllZip};
 ghost use Rattle.base_types.specs.declared.stores.Version.{Version as AVersion};
-ghost use Rattle.host_trait.specs.Files.{HasSlot, StaysReady};
-ghost use Rattle.host_trait.specs.Faults.{NoneFailed};
+ghost use Rattle.host_trait.specs.Files.{HasSlot};
+ghost use Rattle.host_trait.specs.Faults.{HasCalled};
 ghost use Rattle.host_trait.specs.Runs.{OnlyAsked, RunsOnFile};
 ghost use Rattle.host_trait.specs.declared.channels.FileId.{FileId as AFile};
 ghost use Rattle.host_trait.specs.declared.channels.FileId.TheVariants.{Grain};
@@ -50,9 +50,7 @@ fn put_version<H: Host>(
     ensures place { IfOk result (λ place. place ≡ record { offset = 0; len = length (spelling_of_version version) }) }
     ensures fits { OnOk result (VersionFits Two version) }
     ensures whole { (other : AFile) (place : ℕ) → IsErrOf result (AFault.Damaged other place) → ⊥ }
-    ensures calm { OnOk result (NoneFailed (H.faults host.old) (H.faults host.new)) }
-    ensures fault { IfErr result (λ e. ReadFaulted e (H.faults host.old) (H.faults host.new)) }
-    ensures ready { StaysReady (H.is_ready host.old) (H.is_ready host.new) }
+    ensures calls { HasCalled ReadFaulted result H.is_ready H.faults host.old host.new }
 {
     let versions = alone(alloc, version)?;
     match write_versions(alloc, host, file, 0, &versions) {
@@ -92,9 +90,7 @@ fn carried_version<H: Host>(
     ensures damaged { (file : AFile) (place : ℕ) → IsErrOf result (AFault.Damaged file place) → IsTrue H.tells → (version : AVersion)
         → version_numbered live Two (shapes_in_turn (programs_in programs.now)) (seen_in (H.world host.old).disk) named ≡ Ok version → ⊥ }
     ensures asked { IsTrue H.tells → OnlyAsked (H.world host.old) (H.world host.new) }
-    ensures calm { OnOk result (NoneFailed (H.faults host.old) (H.faults host.new)) }
-    ensures fault { IfErr result (λ e. ReadFaulted e (H.faults host.old) (H.faults host.new)) }
-    ensures ready { StaysReady (H.is_ready host.old) (H.is_ready host.new) }
+    ensures calls { HasCalled ReadFaulted result H.is_ready H.faults host.old host.new }
 {
     if named.program > programs.newest() {
         return Err(missing(live, named));
@@ -126,9 +122,7 @@ fn copy_version<H: Host>(
         → IsCopied live (programs_in programs.now) (seen_in (H.world host.old).disk) (H.world host.new).disk named copy) }
     ensures damaged { (file : AFile) (place : ℕ) → IsErrOf result (AFault.Damaged file place) → IsTrue H.tells → (version : AVersion)
         → version_numbered live Two (shapes_in_turn (programs_in programs.now)) (seen_in (H.world host.old).disk) named ≡ Ok version → ⊥ }
-    ensures calm { OnOk result (NoneFailed (H.faults host.old) (H.faults host.new)) }
-    ensures fault { IfErr result (λ e. ReadFaulted e (H.faults host.old) (H.faults host.new)) }
-    ensures ready { StaysReady (H.is_ready host.old) (H.is_ready host.new) }
+    ensures calls { HasCalled ReadFaulted result H.is_ready H.faults host.old host.new }
 {
     let version = match carried_version(alloc, host, live, programs, named) {
         Ok(version) => version,
@@ -171,9 +165,7 @@ pub fn copy_versions<H: Host>(
     ensures damaged { (file : AFile) (place : ℕ) → IsErrOf result (AFault.Damaged file place) → IsTrue H.tells
         → AreThere live (shapes_in_turn (programs_in programs.now)) (seen_in (H.world host.old).disk) latest.old → ⊥ }
 
-    ensures calm { OnOk result (NoneFailed (H.faults host.old) (H.faults host.new)) }
-    ensures fault { IfErr result (λ e. ReadFaulted e (H.faults host.old) (H.faults host.new)) }
-    ensures ready { StaysReady (H.is_ready host.old) (H.is_ready host.new) }
+    ensures calls { HasCalled ReadFaulted result H.is_ready H.faults host.old host.new }
 {
     for named in latest.iter_mut() {
         *named = copy_version(alloc, host, live, programs, *named)?;

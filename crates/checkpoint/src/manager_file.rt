@@ -1,7 +1,7 @@
 // The bytes of a slot's manager file: a byte that is read, and those that are written behind the closed header gate.
-ghost use Rattle.std.specs.Prelude.{◌≡◌, ◌+◌, ◌^◌, ◌<◌, ◌≤◌, ℕ, length, slice_index, IsTrue, IfOk, IfErr, OnOk, IsErrOf};
+ghost use Rattle.std.specs.Prelude.{◌≡◌, ◌+◌, ◌^◌, ◌<◌, ◌≤◌, ℕ, length, slice_index, IsTrue, IfOk, OnOk, IsErrOf};
 ghost use Rattle.host_trait.specs.Files.{StaysReady};
-ghost use Rattle.host_trait.specs.Faults.{Counted, NoneFailed};
+ghost use Rattle.host_trait.specs.Faults.{Counted, HasCalled};
 ghost use Rattle.host_trait.specs.Runs.{RunsOnFile, OnlyAsked};
 ghost use Rattle.host_trait.specs.declared.channels.Channel.TheVariants.{File};
 ghost use Rattle.host_trait.specs.declared.channels.FileId.{FileId as AFile};
@@ -44,9 +44,7 @@ pub(crate) fn put<H: Host>(
     ensures end { IfOk result (λ end. (end ≡ at + length bytes.now) × (end < 2 ^ 63)) }
     ensures within { IfOk result (λ end. IsTrue H.tells → end ≤ length ((H.world host.new).disk (Manager slot)).seen) }
     ensures whole { (other : AFile) (place : ℕ) → IsErrOf result (AFault.Damaged other place) → ⊥ }
-    ensures calm { OnOk result (NoneFailed (H.faults host.old) (H.faults host.new)) }
-    ensures fault { IfErr result (λ e. ReadFaulted e (H.faults host.old) (H.faults host.new)) }
-    ensures ready { StaysReady (H.is_ready host.old) (H.is_ready host.new) }
+    ensures calls { HasCalled ReadFaulted result H.is_ready H.faults host.old host.new }
 {
     let file = FileId::Manager { slot };
     match host.write_at(file, at, bytes) {
@@ -70,9 +68,7 @@ pub(crate) fn put_header<H: Host>(
     ensures end { IfOk result (λ end. end ≡ 15) }
     ensures within { OnOk result (IsTrue H.tells → 15 ≤ length ((H.world host.new).disk (Manager slot)).seen) }
     ensures whole { (other : AFile) (place : ℕ) → IsErrOf result (AFault.Damaged other place) → ⊥ }
-    ensures calm { OnOk result (NoneFailed (H.faults host.old) (H.faults host.new)) }
-    ensures fault { IfErr result (λ e. ReadFaulted e (H.faults host.old) (H.faults host.new)) }
-    ensures ready { StaysReady (H.is_ready host.old) (H.is_ready host.new) }
+    ensures calls { HasCalled ReadFaulted result H.is_ready H.faults host.old host.new }
 {
     let mut header = *b"OTXLOG02\0\0\0\0\0\0";
     let (_, number) = header.split_at_mut(8);

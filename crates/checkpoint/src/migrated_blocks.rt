@@ -1,7 +1,6 @@
 // The blocks of the live slot's manager file, written into the other one in the newer format.
-ghost use Rattle.std.specs.Prelude.{◌≡◌, ◌+◌, ◌-◌, ◌^◌, ◌<◌, ◌≤◌, ℕ, length, take, drop, IsTrue, IfOk, IfErr, IfSome, OnOk, IsErrOf};
-ghost use Rattle.host_trait.specs.Files.{StaysReady};
-ghost use Rattle.host_trait.specs.Faults.{NoneFailed};
+ghost use Rattle.std.specs.Prelude.{◌≡◌, ◌+◌, ◌-◌, ◌^◌, ◌<◌, ◌≤◌, ℕ, length, take, drop, IsTrue, IfOk, IfSome, OnOk, IsErrOf};
+ghost use Rattle.host_trait.specs.Faults.{HasCalled};
 ghost use Rattle.host_trait.specs.Runs.{RunsOnFile, OnlyAsked};
 ghost use Rattle.host_trait.specs.declared.channels.FileId.{FileId as AFile};
 ghost use Rattle.host_trait.specs.declared.channels.FileId.TheVariants.{Manager};
@@ -88,9 +87,7 @@ fn put_block<H: Host>(
     ensures end { IfOk result (λ end. (end ≡ at + length (block_at (with_session is_piece body.now))) × (end < 2 ^ 63)) }
     ensures within { IfOk result (λ end. IsTrue H.tells → end ≤ length ((H.world host.new).disk (Manager slot)).seen) }
     ensures whole { (other : AFile) (place : ℕ) → IsErrOf result (AFault.Damaged other place) → ⊥ }
-    ensures calm { OnOk result (NoneFailed (H.faults host.old) (H.faults host.new)) }
-    ensures fault { IfErr result (λ e. ReadFaulted e (H.faults host.old) (H.faults host.new)) }
-    ensures ready { StaysReady (H.is_ready host.old) (H.is_ready host.new) }
+    ensures calls { HasCalled ReadFaulted result H.is_ready H.faults host.old host.new }
 {
     if body.len() > LONGEST {
         return Err(FolderFault::Memory);
@@ -117,9 +114,7 @@ fn next_body<H: Host>(
     ensures bad { (file : AFile) (place : ℕ) → IsErrOf result (AFault.Damaged file place) → IsTrue H.tells
         → found_at gate_at ((H.world host.old).disk (Manager slot)).seen ≡ bad }
     ensures asked { IsTrue H.tells → OnlyAsked (H.world host.old) (H.world host.new) }
-    ensures calm { OnOk result (NoneFailed (H.faults host.old) (H.faults host.new)) }
-    ensures fault { IfErr result (λ e. ReadFaulted e (H.faults host.old) (H.faults host.new)) }
-    ensures ready { StaysReady (H.is_ready host.old) (H.is_ready host.new) }
+    ensures calls { HasCalled ReadFaulted result H.is_ready H.faults host.old host.new }
 {
     let file = FileId::Manager { slot };
     match read_block(alloc, host, file, gate_at) {
@@ -149,9 +144,7 @@ fn put_blocks<H: Host>(
     ensures within { IfOk result (λ end. IsTrue H.tells → end ≤ length ((H.world host.new).disk (Manager (1 - live))).seen) }
     ensures damaged { (file : AFile) (place : ℕ) → IsErrOf result (AFault.Damaged file place) → IsTrue H.tells
         → IsWhole ((H.world host.old).disk (Manager live)).seen → ⊥ }
-    ensures calm { OnOk result (NoneFailed (H.faults host.old) (H.faults host.new)) }
-    ensures fault { IfErr result (λ e. ReadFaulted e (H.faults host.old) (H.faults host.new)) }
-    ensures ready { StaysReady (H.is_ready host.old) (H.is_ready host.new) }
+    ensures calls { HasCalled ReadFaulted result H.is_ready H.faults host.old host.new }
 {
     let mut gate_at = FIRST_GATE;
     let mut is_piece = begins;
@@ -184,9 +177,7 @@ pub fn migrate_blocks<H: Host>(
     ensures damaged { (file : AFile) (place : ℕ) → IsErrOf result (AFault.Damaged file place) → IsTrue H.tells
         → IsWhole ((H.world host.old).disk (Manager live)).seen → ⊥ }
 
-    ensures calm { OnOk result (NoneFailed (H.faults host.old) (H.faults host.new)) }
-    ensures fault { IfErr result (λ e. ReadFaulted e (H.faults host.old) (H.faults host.new)) }
-    ensures ready { StaysReady (H.is_ready host.old) (H.is_ready host.new) }
+    ensures calls { HasCalled ReadFaulted result H.is_ready H.faults host.old host.new }
 {
     let slot = 1 - live;
     let Ok(begins) = byte_at(host, live, 13) else {

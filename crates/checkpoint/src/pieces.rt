@@ -1,9 +1,8 @@
 // The checkpoint that names the copies, in pieces of a block each.
-ghost use Rattle.std.specs.Prelude.{◌≡◌, ◌+◌, ◌^◌, ◌<◌, ◌≤◌, ◌∷◌, ◌++◌, [], ℕ, map, length, IsTrue, IfOk, IfErr, OnOk, IsErrOf};
+ghost use Rattle.std.specs.Prelude.{◌≡◌, ◌+◌, ◌^◌, ◌<◌, ◌≤◌, ◌∷◌, ◌++◌, [], ℕ, map, length, IsTrue, IfOk, OnOk, IsErrOf};
 ghost use Rattle.std.specs.Prelude as std;
 ghost use Rattle.std.specs.List.{flat_map, AllByRecursion};
-ghost use Rattle.host_trait.specs.Files.{StaysReady};
-ghost use Rattle.host_trait.specs.Faults.{NoneFailed};
+ghost use Rattle.host_trait.specs.Faults.{HasCalled};
 ghost use Rattle.host_trait.specs.Runs.{RunsOnFile};
 ghost use Rattle.host_trait.specs.declared.channels.FileId.{FileId as AFile};
 ghost use Rattle.host_trait.specs.declared.channels.FileId.TheVariants.{Manager};
@@ -73,9 +72,7 @@ fn put_piece<H: Host>(
     ensures within { IfOk result (λ end. IsTrue H.tells → end ≤ length ((H.world host.new).disk (Manager slot)).seen) }
     ensures fits { OnOk result (AllByRecursion WriteFits (writes_named copies.now)) }
     ensures whole { (other : AFile) (place : ℕ) → IsErrOf result (AFault.Damaged other place) → ⊥ }
-    ensures calm { OnOk result (NoneFailed (H.faults host.old) (H.faults host.new)) }
-    ensures fault { IfErr result (λ e. ReadFaulted e (H.faults host.old) (H.faults host.new)) }
-    ensures ready { StaysReady (H.is_ready host.old) (H.is_ready host.new) }
+    ensures calls { HasCalled ReadFaulted result H.is_ready H.faults host.old host.new }
 {
     let block = piece_block(alloc, more, head, copies)?;
     put(host, slot, at, block.as_slice())
@@ -106,9 +103,7 @@ fn put_front<'a, H: Host>(
     ensures within { IfOk result (λ made. IsTrue H.tells → made.end ≤ length ((H.world host.new).disk (Manager slot)).seen) }
     ensures bound { IfOk result (λ made. (1 ≤ made.end) × (made.end < 2 ^ 63)) }
     ensures whole { (other : AFile) (place : ℕ) → IsErrOf result (AFault.Damaged other place) → ⊥ }
-    ensures calm { OnOk result (NoneFailed (H.faults host.old) (H.faults host.new)) }
-    ensures fault { IfErr result (λ e. ReadFaulted e (H.faults host.old) (H.faults host.new)) }
-    ensures ready { StaysReady (H.is_ready host.old) (H.is_ready host.new) }
+    ensures calls { HasCalled ReadFaulted result H.is_ready H.faults host.old host.new }
 {
     let mut end = at;
     let mut rest = copies;
@@ -137,9 +132,7 @@ pub fn write_pieces<H: Host>(
     ensures written { OnOk result (IsTrue H.tells
         → HasPieces generation head (writes_named copies.now) ((H.world host.old).disk (Manager slot)) ((H.world host.new).disk (Manager slot))) }
     ensures whole { (other : AFile) (place : ℕ) → IsErrOf result (AFault.Damaged other place) → ⊥ }
-    ensures calm { OnOk result (NoneFailed (H.faults host.old) (H.faults host.new)) }
-    ensures fault { IfErr result (λ e. ReadFaulted e (H.faults host.old) (H.faults host.new)) }
-    ensures ready { StaysReady (H.is_ready host.old) (H.is_ready host.new) }
+    ensures calls { HasCalled ReadFaulted result H.is_ready H.faults host.old host.new }
 {
     let at = put_header(host, slot, generation, 1)?;
     let front = put_front(alloc, host, slot, at, head, copies)?;

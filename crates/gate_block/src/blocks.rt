@@ -1,9 +1,9 @@
-ghost use Rattle.std.specs.Prelude.{◌≡◌, ◌≢◌, ◌⊎◌, ◌+◌, ◌-◌, ◌^◌, ◌<◌, ◌≤◌, ◌==◌, ◌∷◌, ◌++◌, [], ℕ, List, Bool, true, false, IsTrue, IsOk, length, take, drop, slice_index, IfOk, OnOk, OnErr, IfErr, IfSome, IfNone, MatchOption, IsErrOf};
+ghost use Rattle.std.specs.Prelude.{◌≡◌, ◌≢◌, ◌⊎◌, ◌+◌, ◌-◌, ◌^◌, ◌<◌, ◌≤◌, ◌==◌, ◌∷◌, ◌++◌, [], ℕ, List, Bool, true, false, IsTrue, IsOk, length, take, drop, slice_index, IfOk, OnOk, OnErr, IfSome, IfNone, MatchOption, IsErrOf};
 ghost use Rattle.std.specs.Int.{w32, to_le_bytes};
 ghost use Rattle.host_trait.specs.Disk.{Tears, overlaid, settled};
 ghost use Rattle.host_trait.specs.Files.{MayAsk, StaysReady, IsManager};
 ghost use Rattle.host_trait.specs.Runs.{RunsOnFile, OnlyAsked, HasFailedWrite};
-ghost use Rattle.host_trait.specs.Faults.{Counted, NoneFailed};
+ghost use Rattle.host_trait.specs.Faults.{Counted, HasCalled};
 ghost use Rattle.host_trait.specs.declared.channels.Channel.TheVariants.{File};
 ghost use Rattle.gate_block.specs.Gates.{IsClosedAt, is_open_at};
 ghost use Rattle.gate_block.specs.Blocks.{found_at, bad, block_at, IsFoundAt};
@@ -136,9 +136,7 @@ fn read_body<H: Host>(
     ensures none { IfOk result (λ found. IsTrue H.tells → IfNone found (length ((H.world host.old).disk file).seen - at < size)) }
     ensures bad { (place : ℕ) → IsErrOf result (BlockFault.BadLength place) → ⊥ }
     ensures asked { IsTrue H.tells → OnlyAsked (H.world host.old) (H.world host.new) }
-    ensures calm { OnOk result (NoneFailed (H.faults host.old) (H.faults host.new)) }
-    ensures fault { IfErr result (λ e. BlockFaulted file e (H.faults host.old) (H.faults host.new)) }
-    ensures ready { StaysReady (H.is_ready host.old) (H.is_ready host.new) }
+    ensures calls { HasCalled (BlockFaulted file) result H.is_ready H.faults host.old host.new }
 {
     let mut body = vec![in alloc; 0u8; size as usize]?;
     if !read_full(host, file, at, &mut body)? {
@@ -177,9 +175,7 @@ pub fn read_block<H: Host>(
     ensures asked { IsTrue H.tells → OnlyAsked (H.world host.old) (H.world host.new) }
 
     // No count changes unless the answer is `Failed`; then the file's rose, and no other changed.
-    ensures calm { OnOk result (NoneFailed (H.faults host.old) (H.faults host.new)) }
-    ensures fault { IfErr result (λ e. BlockFaulted file e (H.faults host.old) (H.faults host.new)) }
-    ensures ready { StaysReady (H.is_ready host.old) (H.is_ready host.new) }
+    ensures calls { HasCalled (BlockFaulted file) result H.is_ready H.faults host.old host.new }
 {
     let bad = BlockFault::BadLength { place: gate_at + 1 };
     if !is_open(host, file, gate_at)? {

@@ -1,8 +1,8 @@
 // How a version is read back from its grain's file, and versions that stand one behind the other.
 ghost use Rattle.std.specs.Prelude.{◌≡◌, ◌+◌, ◌-◌, ◌^◌, ◌<◌, ◌≤◌, ℕ, List, IsTrue, true, false, length, take, drop, Some, None, Ok, OnOk, IfOk, IfErr, IfSome, IfNone, IsErrOf};
 ghost use Rattle.std.specs.Int.{w64, to_le_bytes};
-ghost use Rattle.host_trait.specs.Faults.{NoneFailed};
-ghost use Rattle.host_trait.specs.Files.{HasSlot, StaysReady};
+ghost use Rattle.host_trait.specs.Faults.{HasCalled};
+ghost use Rattle.host_trait.specs.Files.{HasSlot};
 ghost use Rattle.host_trait.specs.Runs.{OnlyAsked};
 ghost use Rattle.field_codec.specs.Results.{GivesRead, named_place, place_of};
 ghost use Rattle.grain_log.specs.Counts.{VersionReadFaulted};
@@ -205,11 +205,9 @@ fn read_text<H: Host>(
     ensures none { IfOk result (λ found. IsTrue H.tells → IfNone found (length ((H.world host.old).disk file).seen - place.offset < place.len)) }
     ensures bad { (at : ℕ) → IsErrOf result (Fault.Damaged at) → ⊥ }
     ensures asked { IsTrue H.tells → OnlyAsked (H.world host.old) (H.world host.new) }
-    ensures calm { OnOk result (NoneFailed (H.faults host.old) (H.faults host.new)) }
-    ensures fault { IfErr result (λ e. VersionReadFaulted file e (H.faults host.old) (H.faults host.new)) }
+    ensures calls { HasCalled (VersionReadFaulted file) result H.is_ready H.faults host.old host.new }
     ensures readied { OnOk result (IsTrue (H.is_ready host.new file)) }
     ensures failed { IsErrOf result Fault.Failed → IsTrue (H.is_ready host.new file) }
-    ensures ready { StaysReady (H.is_ready host.old) (H.is_ready host.new) }
 {
     host.ready(file)?;
     // No file is longer, so a place that ends beyond isn't in it: the host's own word for that is its length.
@@ -244,11 +242,9 @@ fn read_there<H: Host>(
     ensures shaped { IfOk result (λ version. IsVersionIn format (fields_in shape.now file) place.len version) }
     ensures near { OnOk result (place.offset + place.len < 2 ^ 63) }
     ensures asked { IsTrue H.tells → OnlyAsked (H.world host.old) (H.world host.new) }
-    ensures calm { OnOk result (NoneFailed (H.faults host.old) (H.faults host.new)) }
-    ensures fault { IfErr result (λ e. VersionReadFaulted file e (H.faults host.old) (H.faults host.new)) }
+    ensures calls { HasCalled (VersionReadFaulted file) result H.is_ready H.faults host.old host.new }
     ensures readied { OnOk result (IsTrue (H.is_ready host.new file)) }
     ensures failed { IsErrOf result Fault.Failed → IsTrue (H.is_ready host.new file) }
-    ensures ready { StaysReady (H.is_ready host.old) (H.is_ready host.new) }
 {
     let damaged = VersionFault::Damaged {
         place: place.offset,
@@ -294,13 +290,11 @@ pub fn read_version<H: Host>(
     ensures asked { IsTrue H.tells → OnlyAsked (H.world host.old) (H.world host.new) }
 
     // No count changes unless the answer is `Failed`; then the file's rose, and no other changed.
-    ensures calm { OnOk result (NoneFailed (H.faults host.old) (H.faults host.new)) }
-    ensures fault { IfErr result (λ e. VersionReadFaulted file e (H.faults host.old) (H.faults host.new)) }
+    ensures calls { HasCalled (VersionReadFaulted file) result H.is_ready H.faults host.old host.new }
 
     // The file is ready once a version was read, or a call on it failed.
     ensures readied { OnOk result (IsTrue (H.is_ready host.new file)) }
     ensures failed { IsErrOf result Fault.Failed → IsTrue (H.is_ready host.new file) }
-    ensures ready { StaysReady (H.is_ready host.old) (H.is_ready host.new) }
 {
     read_there(alloc, host, file, place, shape, format)
 }
@@ -333,13 +327,11 @@ pub fn read_named<H: Host>(
     ensures asked { IsTrue H.tells → OnlyAsked (H.world host.old) (H.world host.new) }
 
     // No count changes unless the answer is `Failed`; then the file's rose, and no other changed.
-    ensures calm { OnOk result (NoneFailed (H.faults host.old) (H.faults host.new)) }
-    ensures fault { IfErr result (λ e. VersionReadFaulted file e (H.faults host.old) (H.faults host.new)) }
+    ensures calls { HasCalled (VersionReadFaulted file) result H.is_ready H.faults host.old host.new }
 
     // The file is ready once a version was read, or a call on it failed.
     ensures readied { OnOk result (IsTrue (H.is_ready host.new file)) }
     ensures failed { IsErrOf result Fault.Failed → IsTrue (H.is_ready host.new file) }
-    ensures ready { StaysReady (H.is_ready host.old) (H.is_ready host.new) }
 {
     let damaged = VersionFault::Damaged {
         place: place.offset,

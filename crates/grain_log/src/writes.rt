@@ -1,8 +1,8 @@
-ghost use Rattle.std.specs.Prelude.{◌≡◌, ◌+◌, ◌^◌, ◌<◌, ◌≤◌, IsTrue, length, IfOk, IfErr, OnOk, IsErrOf};
+ghost use Rattle.std.specs.Prelude.{◌≡◌, ◌+◌, ◌^◌, ◌<◌, ◌≤◌, IsTrue, length, IfOk, OnOk, IsErrOf};
 ghost use Rattle.std.specs.List.{AllByRecursion};
 ghost use Rattle.host_trait.specs.Disk.{Tears};
-ghost use Rattle.host_trait.specs.Faults.{NoneFailed};
-ghost use Rattle.host_trait.specs.Files.{HasSlot, StaysReady};
+ghost use Rattle.host_trait.specs.Faults.{HasCalled};
+ghost use Rattle.host_trait.specs.Files.{HasSlot};
 ghost use Rattle.host_trait.specs.Runs.{RunsOnFile};
 ghost use Rattle.field_codec.specs.declared.formats.Format.TheVariants.{Two};
 ghost use Rattle.field_codec.specs.Spelling.{VersionFits};
@@ -66,13 +66,11 @@ pub fn write_versions<H: Host>(
     ensures memory { IsErrOf result LogFault.Memory → IsTrue H.tells → H.world host.new ≡ H.world host.old }
 
     // No count changes unless the answer is `Failed`; then the file's rose, and no other changed.
-    ensures calm { OnOk result (NoneFailed (H.faults host.old) (H.faults host.new)) }
-    ensures fault { IfErr result (λ e. WriteFaulted file e (H.faults host.old) (H.faults host.new)) }
+    ensures calls { HasCalled (WriteFaulted file) result H.is_ready H.faults host.old host.new }
 
     // The file is ready once versions were written, or a call on it failed.
     ensures readied { OnOk result (IsTrue (H.is_ready host.new file)) }
     ensures failed { IsErrOf result LogFault.Failed → IsTrue (H.is_ready host.new file) }
-    ensures ready { StaysReady (H.is_ready host.old) (H.is_ready host.new) }
 {
     host.ready(file)?;
     let (bytes, places) = encode(alloc, at, versions.as_slice())?;

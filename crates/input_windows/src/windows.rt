@@ -1,5 +1,5 @@
 ghost use Rattle.std.specs.Prelude.{◌≡◌, ◌+◌, ◌-◌, ◌^◌, ◌<◌, ◌≤◌, ◌++◌, [], false, min, length, take, drop, IsTrue, IfOk, OnOk, IfErr, OnErr};
-ghost use Rattle.host_trait.specs.Faults.{NoneFailed, Counted};
+ghost use Rattle.host_trait.specs.Faults.{NoneFailed, Counted, HasCalled};
 ghost use Rattle.host_trait.specs.Files.{StaysReady};
 ghost use Rattle.host_trait.specs.World.{Asked, Pulled};
 ghost use Rattle.host_trait.specs.declared.channels.Channel.TheVariants.{Input};
@@ -243,10 +243,8 @@ impl InputWindows {
         ensures none { OnErr result (window_in self.new ≡ []) }
 
         // what the host did
-        ensures calm { OnOk result (NoneFailed (H.faults host.old) (H.faults host.new)) }
-        ensures counts { IfErr result (λ e. PullFaulted e (H.faults host.old) (H.faults host.new)) }
+        ensures calls { HasCalled PullFaulted result H.is_ready H.faults host.old host.new }
         ensures only { IsTrue H.tells → PulledOnly (H.world host.old) (H.world host.new) }
-        ensures ready { StaysReady (H.is_ready host.old) (H.is_ready host.new) }
     {
         self.go_on();
         let most = u32::MAX - self.before;

@@ -1,7 +1,7 @@
 ghost use Rattle.std.specs.Prelude.{◌≡◌, ℕ, List, IsTrue, OnOk, IfOk, IfErr, IsErrOf, is_ok};
 ghost use Rattle.host_trait.specs.Disk.{settled};
 ghost use Rattle.host_trait.specs.Files.{StaysReady};
-ghost use Rattle.host_trait.specs.Faults.{NoneFailed};
+ghost use Rattle.host_trait.specs.Faults.{HasCalled};
 ghost use Rattle.host_trait.specs.declared.channels.FileId.TheVariants.{Manager};
 ghost use Rattle.field_codec.specs.declared.formats.Format.TheVariants.{Two};
 ghost use Rattle.log_reading.specs.Steps.{seen_in};
@@ -70,13 +70,11 @@ pub fn audit<H: Host>(alloc: Global, host: &mut H) -> Result<AuditReport, OpenFa
         → IsRefusedBy Two (seen_in (H.world host.old).disk) (opened_as (seen_in (H.world host.old).disk)) (ending_of e)) }
 
     // The counts of faults, over any host.
-    ensures calm { OnOk result (NoneFailed (H.faults host.old) (H.faults host.new)) }
-    ensures fault { IfErr result (λ e. OpenFaulted e (H.faults host.old) (H.faults host.new)) }
+    ensures calls { HasCalled OpenFaulted result H.is_ready H.faults host.old host.new }
     ensures not_last { IsErrOf result OpenFault.LastGeneration → ⊥ }
 
     // Nothing was written or emitted, and no input was taken: the folder was opened, and beside that there was nothing but asking.
     ensures only { IsTrue H.tells → OnlyOpens (H.world host.old) (H.world host.new) }
-    ensures ready { StaysReady (H.is_ready host.old) (H.is_ready host.new) }
 {
     let opened = match open_silo(alloc, host) {
         Ok(opened) => opened,

@@ -1,7 +1,6 @@
 ghost use Rattle.std.specs.Prelude.{◌≡◌, ◌≤◌, ◌||◌, IsTrue, Ok, Some, None, is_some, OnOk, IfOk, IfErr, length};
 ghost use Rattle.std.specs.List.{fold};
-ghost use Rattle.host_trait.specs.Files.{StaysReady};
-ghost use Rattle.host_trait.specs.Faults.{NoneFailed};
+ghost use Rattle.host_trait.specs.Faults.{HasCalled};
 ghost use Rattle.host_trait.specs.Runs.{OnlyAsked};
 ghost use Rattle.host_trait.specs.declared.channels.FileId.TheVariants.{Manager};
 ghost use Rattle.field_codec.specs.declared.formats.Format.TheVariants.{Two};
@@ -80,9 +79,7 @@ fn read_writes<H: Host>(
     ensures unread { IfErr result (λ e. IsTrue H.tells
         → IsWriteFault slot shape.now (seen_in (H.world host.old).disk) (Some entry.now.unit) entry.now.writes e) }
     ensures asked { IsTrue H.tells → OnlyAsked (H.world host.old) (H.world host.new) }
-    ensures calm { OnOk result (NoneFailed (H.faults host.old) (H.faults host.new)) }
-    ensures fault { IfErr result (λ e. ReadFaulted e (H.faults host.old) (H.faults host.new)) }
-    ensures ready { StaysReady (H.is_ready host.old) (H.is_ready host.new) }
+    ensures calls { HasCalled ReadFaulted result H.is_ready H.faults host.old host.new }
 {
     let writes = entry.writes.as_slice();
     let mut kept = Vec::new(alloc);
@@ -134,9 +131,7 @@ fn replay<H: Host>(
     ensures unread { IfErr result (λ e. IsTrue H.tells
         → IsWriteFault slot now.now.shape (seen_in (H.world host.old).disk) (Some entry.now.unit) entry.now.writes e) }
     ensures asked { IsTrue H.tells → OnlyAsked (H.world host.old) (H.world host.new) }
-    ensures calm { OnOk result (NoneFailed (H.faults host.old) (H.faults host.new)) }
-    ensures fault { IfErr result (λ e. ReadFaulted e (H.faults host.old) (H.faults host.new)) }
-    ensures ready { StaysReady (H.is_ready host.old) (H.is_ready host.new) }
+    ensures calls { HasCalled ReadFaulted result H.is_ready H.faults host.old host.new }
 {
     let kept = read_writes(alloc, host, slot, &now.shape, entry)?;
     let depth = entry.origin.depth();
@@ -172,9 +167,7 @@ fn replay_records<H: Host>(
     ensures fits { OnOk result (StoreFits (types_in_force now.now) store.old → StoreFits (types_in_force now.now) store.new) }
     ensures unread { IfErr result (λ e. IsTrue H.tells → IsRecordFault slot now.now.shape (seen_in (H.world host.old).disk) records.now e) }
     ensures asked { IsTrue H.tells → OnlyAsked (H.world host.old) (H.world host.new) }
-    ensures calm { OnOk result (NoneFailed (H.faults host.old) (H.faults host.new)) }
-    ensures fault { IfErr result (λ e. ReadFaulted e (H.faults host.old) (H.faults host.new)) }
-    ensures ready { StaysReady (H.is_ready host.old) (H.is_ready host.new) }
+    ensures calls { HasCalled ReadFaulted result H.is_ready H.faults host.old host.new }
 {
     for entry in records {
         let found = replay(alloc, host, slot, now, store, entry)?;
@@ -207,9 +200,7 @@ fn replay_said<H: Host>(
     ensures unread { IfErr result (λ e. IsTrue H.tells → (p : Program) → p.types ≡ types_in_force now.old
         → IsEntryFault slot p (seen_in (H.world host.old).disk) (said_entries said) e) }
     ensures asked { IsTrue H.tells → OnlyAsked (H.world host.old) (H.world host.new) }
-    ensures calm { OnOk result (NoneFailed (H.faults host.old) (H.faults host.new)) }
-    ensures fault { IfErr result (λ e. ReadFaulted e (H.faults host.old) (H.faults host.new)) }
-    ensures ready { StaysReady (H.is_ready host.old) (H.is_ready host.new) }
+    ensures calls { HasCalled ReadFaulted result H.is_ready H.faults host.old host.new }
 {
     match said {
         Said::Records(records) => {
@@ -245,9 +236,7 @@ fn saved_store<H: Host>(
     ensures fits { IfOk result (λ store. (types : ProgramTree) → shape.now ≡ record { types = type_shapes types } → StoreFits types store) }
     ensures unread { IfErr result (λ e. IsTrue H.tells → IsWriteFault slot shape.now (seen_in (H.world host.old).disk) None saved.now e) }
     ensures asked { IsTrue H.tells → OnlyAsked (H.world host.old) (H.world host.new) }
-    ensures calm { OnOk result (NoneFailed (H.faults host.old) (H.faults host.new)) }
-    ensures fault { IfErr result (λ e. ReadFaulted e (H.faults host.old) (H.faults host.new)) }
-    ensures ready { StaysReady (H.is_ready host.old) (H.is_ready host.new) }
+    ensures calls { HasCalled ReadFaulted result H.is_ready H.faults host.old host.new }
 {
     let mut store = Store::new(alloc);
     for written in saved {
@@ -280,9 +269,7 @@ pub(crate) fn replay_log<H: Host>(
         → (log : ALog) → log_in_file Two p ((H.world host.old).disk (Manager slot)).seen ≡ Ok log
         → IsRereadFault slot p (seen_in (H.world host.old).disk) log e) }
     ensures asked { IsTrue H.tells → OnlyAsked (H.world host.old) (H.world host.new) }
-    ensures calm { OnOk result (NoneFailed (H.faults host.old) (H.faults host.new)) }
-    ensures fault { IfErr result (λ e. ReadFaulted e (H.faults host.old) (H.faults host.new)) }
-    ensures ready { StaysReady (H.is_ready host.old) (H.is_ready host.new) }
+    ensures calls { HasCalled ReadFaulted result H.is_ready H.faults host.old host.new }
 {
     let base = read_base(alloc, host, slot, &first.shape, Format::Two)?;
     let mut store = saved_store(alloc, host, slot, &first.shape, base.saved.as_slice())?;

@@ -1,6 +1,5 @@
-ghost use Rattle.std.specs.Prelude.{◌≡◌, ◌∷◌, ◌^◌, ◌<◌, ◌≤◌, ℕ, IsTrue, length, Ok, OnOk, IfOk, IfErr};
-ghost use Rattle.host_trait.specs.Files.{StaysReady};
-ghost use Rattle.host_trait.specs.Faults.{NoneFailed};
+ghost use Rattle.std.specs.Prelude.{◌≡◌, ◌∷◌, ◌^◌, ◌<◌, ◌≤◌, ℕ, IsTrue, length, Ok, IfOk, IfErr};
+ghost use Rattle.host_trait.specs.Faults.{HasCalled};
 ghost use Rattle.host_trait.specs.Runs.{OnlyAsked};
 ghost use Rattle.script_tree.specs.Programs.{program_tree};
 ghost use Rattle.program_file.specs.Programs.{program_in};
@@ -62,9 +61,7 @@ pub fn read_contents<H: Host>(
     ensures refused { IfErr result (λ e. IsTrue H.tells
         → IsUnread slot format (record { text = text; types = program_tree first }) (seen_in (H.world host.old).disk) e) }
     ensures asked { IsTrue H.tells → OnlyAsked (H.world host.old) (H.world host.new) }
-    ensures calm { OnOk result (NoneFailed (H.faults host.old) (H.faults host.new)) }
-    ensures fault { IfErr result (λ e. ReadFaulted e (H.faults host.old) (H.faults host.new)) }
-    ensures ready { StaysReady (H.is_ready host.old) (H.is_ready host.new) }
+    ensures calls { HasCalled ReadFaulted result H.is_ready H.faults host.old host.new }
 {
     let log = match read_log(alloc, host, slot, &first, format) {
         Ok(log) => log,

@@ -1,6 +1,5 @@
-ghost use Rattle.std.specs.Prelude.{◌≡◌, ◌+◌, ◌^◌, ◌<◌, ◌≤◌, ℕ, IsTrue, length, Ok, Err, OnOk, IfOk, IfErr, IfSome, IsErrOf, Bool, true};
-ghost use Rattle.host_trait.specs.Files.{StaysReady};
-ghost use Rattle.host_trait.specs.Faults.{NoneFailed};
+ghost use Rattle.std.specs.Prelude.{◌≡◌, ◌+◌, ◌^◌, ◌<◌, ◌≤◌, ℕ, IsTrue, length, Ok, Err, OnOk, IfOk, IfSome, IsErrOf, Bool, true};
+ghost use Rattle.host_trait.specs.Faults.{HasCalled};
 ghost use Rattle.host_trait.specs.Runs.{OnlyAsked};
 ghost use Rattle.host_trait.specs.World.{Image};
 ghost use Rattle.host_trait.specs.declared.channels.FileId.{FileId};
@@ -144,9 +143,7 @@ fn read_piece<H: Host>(
     ensures failed { (file : FileId) → IsErrOf result (FolderFault.Failed file) → file ≡ Grain slot grain }
     ensures quiet { (file : FileId) (place : ℕ) → IsErrOf result (FolderFault.Damaged file place) → ⊥ }
     ensures asked { IsTrue H.tells → OnlyAsked (H.world host.old) (H.world host.new) }
-    ensures calm { OnOk result (NoneFailed (H.faults host.old) (H.faults host.new)) }
-    ensures fault { IfErr result (λ e. ReadFaulted e (H.faults host.old) (H.faults host.new)) }
-    ensures ready { StaysReady (H.is_ready host.old) (H.is_ready host.new) }
+    ensures calls { HasCalled ReadFaulted result H.is_ready H.faults host.old host.new }
 {
     let file = FileId::Grain { slot, grain };
     let mut bytes = vec![in alloc; 0u8; size]?;
@@ -181,9 +178,7 @@ pub fn refill<H: Host>(
     ensures failed { (file : FileId) → IsErrOf result (FolderFault.Failed file) → file ≡ Grain slot first.written.grain }
     ensures quiet { (file : FileId) (place : ℕ) → IsErrOf result (FolderFault.Damaged file place) → ⊥ }
     ensures asked { IsTrue H.tells → OnlyAsked (H.world host.old) (H.world host.new) }
-    ensures calm { OnOk result (NoneFailed (H.faults host.old) (H.faults host.new)) }
-    ensures fault { IfErr result (λ e. ReadFaulted e (H.faults host.old) (H.faults host.new)) }
-    ensures ready { StaysReady (H.is_ready host.old) (H.is_ready host.new) }
+    ensures calls { HasCalled ReadFaulted result H.is_ready H.faults host.old host.new }
 {
     if text_in(piece, first).is_some() {
         return Ok(());

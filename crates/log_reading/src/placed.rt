@@ -2,8 +2,7 @@ ghost use Rattle.std.specs.Prelude.{◌≡◌, ◌≤◌, List, IsTrue, map, OnO
 ghost use Rattle.base_types.specs.declared.calls.GrainId.{GrainId as AGrain};
 ghost use Rattle.base_types.specs.Stores.{state_in};
 ghost use Rattle.base_types.specs.Places.{placed_in};
-ghost use Rattle.host_trait.specs.Files.{StaysReady};
-ghost use Rattle.host_trait.specs.Faults.{NoneFailed};
+ghost use Rattle.host_trait.specs.Faults.{HasCalled};
 ghost use Rattle.host_trait.specs.Runs.{OnlyAsked};
 ghost use Rattle.script_tree.specs.Programs.{ProgramTree, program_tree};
 ghost use Rattle.program_file.specs.Succession.{ArePrograms, shapes_in_turn, carried_from};
@@ -73,9 +72,7 @@ fn placed_version<H: Host>(
     ensures unread { IfErr result (λ e. IsTrue H.tells
         → IsUnreadAt slot format shapes.now (seen_in (H.world host.old).disk) grain (Some placed.now) e) }
     ensures asked { IsTrue H.tells → OnlyAsked (H.world host.old) (H.world host.new) }
-    ensures calm { OnOk result (NoneFailed (H.faults host.old) (H.faults host.new)) }
-    ensures fault { IfErr result (λ e. ReadFaulted e (H.faults host.old) (H.faults host.new)) }
-    ensures ready { StaysReady (H.is_ready host.old) (H.is_ready host.new) }
+    ensures calls { HasCalled ReadFaulted result H.is_ready H.faults host.old host.new }
 {
     let file = FileId::Grain { slot, grain };
     let Some(shape) = shapes.get(placed.program as usize) else {
@@ -110,9 +107,7 @@ fn read_state<H: Host>(
     ensures unread { IfErr result (λ e. IsTrue H.tells
         → IsUnreadAt slot format shapes.now (seen_in (H.world host.old).disk) grain (placed_in places.now grain) e) }
     ensures asked { IsTrue H.tells → OnlyAsked (H.world host.old) (H.world host.new) }
-    ensures calm { OnOk result (NoneFailed (H.faults host.old) (H.faults host.new)) }
-    ensures fault { IfErr result (λ e. ReadFaulted e (H.faults host.old) (H.faults host.new)) }
-    ensures ready { StaysReady (H.is_ready host.old) (H.is_ready host.new) }
+    ensures calls { HasCalled ReadFaulted result H.is_ready H.faults host.old host.new }
 {
     let Some(placed) = places.get(grain) else {
         return Ok(());
@@ -146,9 +141,7 @@ fn read_each<H: Host>(
     ensures unread { IfErr result (λ e. IsTrue H.tells → (grain : AGrain)
         × IsUnreadAt slot format shapes.now (seen_in (H.world host.old).disk) grain (placed_in places.now grain) e) }
     ensures asked { IsTrue H.tells → OnlyAsked (H.world host.old) (H.world host.new) }
-    ensures calm { OnOk result (NoneFailed (H.faults host.old) (H.faults host.new)) }
-    ensures fault { IfErr result (λ e. ReadFaulted e (H.faults host.old) (H.faults host.new)) }
-    ensures ready { StaysReady (H.is_ready host.old) (H.is_ready host.new) }
+    ensures calls { HasCalled ReadFaulted result H.is_ready H.faults host.old host.new }
 {
     for grain in grains {
         read_state(
@@ -177,9 +170,7 @@ pub fn read_states<H: Host>(
     ensures unread { IfErr result (λ e. IsTrue H.tells → (grain : AGrain)
         × IsUnreadAt slot format (shapes_in_turn (map program_tree programs.now)) (seen_in (H.world host.old).disk) grain (placed_in places.now grain) e) }
     ensures asked { IsTrue H.tells → OnlyAsked (H.world host.old) (H.world host.new) }
-    ensures calm { OnOk result (NoneFailed (H.faults host.old) (H.faults host.new)) }
-    ensures fault { IfErr result (λ e. ReadFaulted e (H.faults host.old) (H.faults host.new)) }
-    ensures ready { StaysReady (H.is_ready host.old) (H.is_ready host.new) }
+    ensures calls { HasCalled ReadFaulted result H.is_ready H.faults host.old host.new }
 {
     let shapes = shapes_in_turn(alloc, programs)?;
     let grains = places.grains(alloc)?;

@@ -3,8 +3,8 @@ ghost use Rattle.std.specs.Int.{w64, to_le_bytes};
 ghost use Rattle.base_types.specs.declared.calls.GrainId.{GrainId};
 ghost use Rattle.base_types.specs.Stores.{end_in};
 ghost use Rattle.base_types.specs.Places.{placed_in};
-ghost use Rattle.host_trait.specs.Files.{MayAsk, StaysReady};
-ghost use Rattle.host_trait.specs.Faults.{Counted, NoneFailed};
+ghost use Rattle.host_trait.specs.Files.{MayAsk};
+ghost use Rattle.host_trait.specs.Faults.{Counted, HasCalled};
 ghost use Rattle.host_trait.specs.Runs.{OnlyAsked};
 ghost use Rattle.host_trait.specs.declared.channels.FileId.{FileId};
 ghost use Rattle.host_trait.specs.declared.channels.FileId.TheVariants.{Grain};
@@ -48,9 +48,7 @@ pub fn named_version<H: Host>(
     ensures file { (file : FileId) (place : ℕ) → IsErrOf result (FolderFault.Damaged file place) → file ≡ Grain slot named.written.grain }
     ensures failed { (file : FileId) → IsErrOf result (FolderFault.Failed file) → file ≡ Grain slot named.written.grain }
     ensures asked { IsTrue H.tells → OnlyAsked (H.world host.old) (H.world host.new) }
-    ensures calm { OnOk result (NoneFailed (H.faults host.old) (H.faults host.new)) }
-    ensures fault { IfErr result (λ e. ReadFaulted e (H.faults host.old) (H.faults host.new)) }
-    ensures ready { StaysReady (H.is_ready host.old) (H.is_ready host.new) }
+    ensures calls { HasCalled ReadFaulted result H.is_ready H.faults host.old host.new }
 {
     let grain = named.written.grain;
     let file = FileId::Grain { slot, grain };
@@ -90,9 +88,7 @@ fn next_version<H: Host>(
     ensures file { (file : FileId) (place : ℕ) → IsErrOf result (FolderFault.Damaged file place) → file ≡ Grain slot named.written.grain }
     ensures failed { (file : FileId) → IsErrOf result (FolderFault.Failed file) → file ≡ Grain slot named.written.grain }
     ensures asked { IsTrue H.tells → OnlyAsked (H.world host.old) (H.world host.new) }
-    ensures calm { OnOk result (NoneFailed (H.faults host.old) (H.faults host.new)) }
-    ensures fault { IfErr result (λ e. ReadFaulted e (H.faults host.old) (H.faults host.new)) }
-    ensures ready { StaysReady (H.is_ready host.old) (H.is_ready host.new) }
+    ensures calls { HasCalled ReadFaulted result H.is_ready H.faults host.old host.new }
 {
     match text_in(piece, named) {
         Some(text) => version_of(alloc, slot, shape, format, named, text),
@@ -120,9 +116,7 @@ fn numbered_version<H: Host>(
     ensures file { (file : FileId) (place : ℕ) → IsErrOf result (FolderFault.Damaged file place) → file ≡ Grain slot named.written.grain }
     ensures failed { (file : FileId) → IsErrOf result (FolderFault.Failed file) → file ≡ Grain slot named.written.grain }
     ensures asked { IsTrue H.tells → OnlyAsked (H.world host.old) (H.world host.new) }
-    ensures calm { OnOk result (NoneFailed (H.faults host.old) (H.faults host.new)) }
-    ensures fault { IfErr result (λ e. ReadFaulted e (H.faults host.old) (H.faults host.new)) }
-    ensures ready { StaysReady (H.is_ready host.old) (H.is_ready host.new) }
+    ensures calls { HasCalled ReadFaulted result H.is_ready H.faults host.old host.new }
 {
     let grain = named.written.grain;
     let Some(shape) = shapes.get(named.program as usize) else {
@@ -203,9 +197,7 @@ pub fn read_versions<H: Host>(
     ensures unread { IfErr result (λ e. IsTrue H.tells
         → AreUnread slot format (shapes_in_turn (programs_in programs.now)) (seen_in (H.world host.old).disk) named.now e) }
     ensures asked { IsTrue H.tells → OnlyAsked (H.world host.old) (H.world host.new) }
-    ensures calm { OnOk result (NoneFailed (H.faults host.old) (H.faults host.new)) }
-    ensures fault { IfErr result (λ e. ReadFaulted e (H.faults host.old) (H.faults host.new)) }
-    ensures ready { StaysReady (H.is_ready host.old) (H.is_ready host.new) }
+    ensures calls { HasCalled ReadFaulted result H.is_ready H.faults host.old host.new }
 {
     let mut piece = no_piece(alloc);
     let mut at = 0;

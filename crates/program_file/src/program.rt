@@ -1,6 +1,5 @@
-ghost use Rattle.std.specs.Prelude.{◌≡◌, ◌≤◌, ℕ, List, IsTrue, length, Ok, Err, OnOk, IfOk, IfErr, IsErrOf};
-ghost use Rattle.host_trait.specs.Files.{StaysReady};
-ghost use Rattle.host_trait.specs.Faults.{NoneFailed};
+ghost use Rattle.std.specs.Prelude.{◌≡◌, ◌≤◌, ℕ, List, IsTrue, length, Ok, Err, IfOk, IsErrOf};
+ghost use Rattle.host_trait.specs.Faults.{HasCalled};
 ghost use Rattle.host_trait.specs.Runs.{OnlyAsked};
 ghost use Rattle.script_tree.specs.Programs.{program_tree};
 ghost use Rattle.program_file.specs.declared.faults.ProgramFileFault.{ProgramFileFault as Fault};
@@ -116,9 +115,7 @@ pub fn read_program<H: Host>(
     ensures asked { IsTrue H.tells → OnlyAsked (H.world host.old) (H.world host.new) }
 
     // No count changes unless the answer is `Failed`; then the program file's rose, and no other changed.
-    ensures calm { OnOk result (NoneFailed (H.faults host.old) (H.faults host.new)) }
-    ensures fault { IfErr result (λ e. FileFaulted slot e (H.faults host.old) (H.faults host.new)) }
-    ensures ready { StaysReady (H.is_ready host.old) (H.is_ready host.new) }
+    ensures calls { HasCalled (FileFaulted slot) result H.is_ready H.faults host.old host.new }
 {
     let text = read_text(alloc, host, slot)?;
     match accept_text(alloc, &text) {

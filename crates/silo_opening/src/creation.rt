@@ -4,7 +4,7 @@ ghost use Rattle.host_trait.specs.Disk.{Tears, overlaid, settled};
 ghost use Rattle.host_trait.specs.World.{Image, IsImage, Passes, moment_of};
 ghost use Rattle.host_trait.specs.Runs.{RunsOnFile, OnlyAsked};
 ghost use Rattle.host_trait.specs.Files.{StaysReady};
-ghost use Rattle.host_trait.specs.Faults.{Counted, NoneFailed};
+ghost use Rattle.host_trait.specs.Faults.{Counted, HasCalled};
 ghost use Rattle.host_trait.specs.declared.channels.FileId.{FileId};
 ghost use Rattle.host_trait.specs.declared.channels.FileId.TheVariants.{Manager, Program as ProgramFile};
 ghost use Rattle.host_trait.specs.declared.channels.Channel.TheVariants.{File};
@@ -75,9 +75,7 @@ pub fn create<H: Host>(host: &mut H, program: &[u8]) -> Result<(), CreateFault>
 
     // `DiskFault` is answered exactly where a call on the file, one of these, failed: its count rose then, and no other
     // changed. With another answer no count has changed.
-    ensures calm { OnOk result (NoneFailed (H.faults host.old) (H.faults host.new)) }
-    ensures fault { IfErr result (λ e. CreateFaulted e (H.faults host.old) (H.faults host.new)) }
-    ensures ready { StaysReady (H.is_ready host.old) (H.is_ready host.new) }
+    ensures calls { HasCalled CreateFaulted result H.is_ready H.faults host.old host.new }
 {
     prepare(host)?;
     fill(host, program)?;
@@ -93,9 +91,7 @@ fn prepare<H: Host>(host: &mut H) -> Result<(), CreateFault>
     ensures moments { IsTrue H.tells → ShowsSilos IsMagic (H.world host.old).disk
         → ComesSoFar (HasNoSilo IsMagic) (H.world host.old) (H.world host.new) }
     ensures beside { IsTrue H.tells → StaysBeside (H.world host.old) (H.world host.new) }
-    ensures calm { OnOk result (NoneFailed (H.faults host.old) (H.faults host.new)) }
-    ensures fault { IfErr result (λ e. CreateFaulted e (H.faults host.old) (H.faults host.new)) }
-    ensures ready { StaysReady (H.is_ready host.old) (H.is_ready host.new) }
+    ensures calls { HasCalled CreateFaulted result H.is_ready H.faults host.old host.new }
 {
     let (front, other) = match look_both(host) {
         Ok(fronts) => fronts,
@@ -156,9 +152,7 @@ fn look_both<H: Host>(host: &mut H) -> Result<(Front, Front), CreateFault>
     ensures untouched { IsTrue H.tells → IsUntouched (H.world host.old) (H.world host.new) }
     ensures beside { IsTrue H.tells → StaysBeside (H.world host.old) (H.world host.new) }
     ensures refused { IfErr result (λ e. (file : FileId) × IsEitherManager file × (e ≡ CreateFault.DiskFault file)) }
-    ensures calm { OnOk result (NoneFailed (H.faults host.old) (H.faults host.new)) }
-    ensures fault { IfErr result (λ e. CreateFaulted e (H.faults host.old) (H.faults host.new)) }
-    ensures ready { StaysReady (H.is_ready host.old) (H.is_ready host.new) }
+    ensures calls { HasCalled CreateFaulted result H.is_ready H.faults host.old host.new }
 {
     let Ok(front) = look(host, 0) else {
         return Err(manager_fault(0));
@@ -242,9 +236,7 @@ fn fill<H: Host>(host: &mut H, program: &[u8]) -> Result<(), CreateFault>
     ensures beside { IsTrue H.tells → StaysBeside (H.world host.old) (H.world host.new) }
     ensures count { OnOk result (IsTrue H.tells → (H.world host.new).syncs ≡ (H.world host.old).syncs + 3) }
     ensures already { IsErrOf result CreateFault.AlreadyASilo → ⊥ }
-    ensures calm { OnOk result (NoneFailed (H.faults host.old) (H.faults host.new)) }
-    ensures fault { IfErr result (λ e. CreateFaulted e (H.faults host.old) (H.faults host.new)) }
-    ensures ready { StaysReady (H.is_ready host.old) (H.is_ready host.new) }
+    ensures calls { HasCalled CreateFaulted result H.is_ready H.faults host.old host.new }
 {
     let file = FileId::Program { slot: 0 };
     write_program(host, 0, program).map_err(|_| CreateFault::DiskFault { file })?;

@@ -1,6 +1,5 @@
 ghost use Rattle.std.specs.Prelude.{◌≡◌, ◌≤◌, ◌<◌, [], length, IsTrue, IfOk, OnOk, IfErr, vec_len};
-ghost use Rattle.host_trait.specs.Faults.{NoneFailed};
-ghost use Rattle.host_trait.specs.Files.{StaysReady};
+ghost use Rattle.host_trait.specs.Faults.{HasCalled};
 ghost use Rattle.host_trait.specs.World.{Passes, moment_of};
 ghost use Rattle.silo_opening.specs.Counts.{InputFaulted};
 
@@ -55,14 +54,12 @@ pub fn read_input<H: Host>(alloc: Global, host: &mut H) -> Result<Vec<u8>, Input
     ensures within { IfOk result (λ bytes. vec_len bytes ≤ PROGRAM_LIMIT) }
     ensures too_long { IfErr result (λ e. e ≡ InputFault.TooLong
         → IsTrue H.tells → PROGRAM_LIMIT < length (H.world host.old).input) }
-    ensures calm { OnOk result (NoneFailed (H.faults host.old) (H.faults host.new)) }
-    ensures counts { IfErr result (λ e. InputFaulted e (H.faults host.old) (H.faults host.new)) }
+    ensures calls { HasCalled InputFaulted result H.is_ready H.faults host.old host.new }
     ensures output { IsTrue H.tells → (H.world host.new).output ≡ (H.world host.old).output }
     ensures disk { IsTrue H.tells → (H.world host.new).disk ≡ (H.world host.old).disk }
     ensures syncs { IsTrue H.tells → (H.world host.new).syncs ≡ (H.world host.old).syncs }
     ensures moments { IsTrue H.tells → Passes (λ m. m ≡ moment_of (H.world host.old))
         (H.world host.old).past (H.world host.new).past }
-    ensures ready { StaysReady (H.is_ready host.old) (H.is_ready host.new) }
 {
     let mut input = Vec::new(alloc);
     let mut piece = [0u8; PIECE];

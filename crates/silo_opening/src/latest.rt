@@ -1,6 +1,5 @@
-ghost use Rattle.std.specs.Prelude.{◌≡◌, ◌⊎◌, ◌≤◌, List, IsTrue, OnOk, IfOk, IfErr};
-ghost use Rattle.host_trait.specs.Files.{StaysReady};
-ghost use Rattle.host_trait.specs.Faults.{NoneFailed};
+ghost use Rattle.std.specs.Prelude.{◌≡◌, ◌⊎◌, ◌≤◌, List, IsTrue, IfOk, IfErr};
+ghost use Rattle.host_trait.specs.Faults.{HasCalled};
 ghost use Rattle.host_trait.specs.Runs.{OnlyAsked};
 ghost use Rattle.host_trait.specs.declared.channels.FileId.TheVariants.{Manager};
 ghost use Rattle.log_reading.specs.Steps.{seen_in};
@@ -36,9 +35,7 @@ pub fn latest_versions<H: Host>(
     ensures refused { IfErr result (λ e. IsTrue H.tells → IsOpenedFrom (seen_in (H.world host.old).disk) opened.now
         → (e ≡ OpenFault.Memory) ⊎ (e ≡ OpenFault.DiskFault (Manager opened.now.slot))) }
     ensures asked { IsTrue H.tells → OnlyAsked (H.world host.old) (H.world host.new) }
-    ensures calm { OnOk result (NoneFailed (H.faults host.old) (H.faults host.new)) }
-    ensures fault { IfErr result (λ e. OpenFaulted e (H.faults host.old) (H.faults host.new)) }
-    ensures ready { StaysReady (H.is_ready host.old) (H.is_ready host.new) }
+    ensures calls { HasCalled OpenFaulted result H.is_ready H.faults host.old host.new }
 {
     let first = &opened.programs.as_slice()[0];
     match read_latest(alloc, host, opened.slot, first, Format::Two) {

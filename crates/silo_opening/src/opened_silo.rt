@@ -1,7 +1,7 @@
 ghost use Rattle.std.specs.Prelude.{◌≡◌, ◌+◌, ◌^◌, ◌<◌, ◌≤◌, ℕ, nat_le, IsTrue, length, Option, None, OnOk, IfOk, IfErr, IfSome, IsErrOf};
 ghost use Rattle.host_trait.specs.Disk.{settled};
 ghost use Rattle.host_trait.specs.Files.{StaysReady};
-ghost use Rattle.host_trait.specs.Faults.{Counted, NoneFailed};
+ghost use Rattle.host_trait.specs.Faults.{Counted, HasCalled};
 ghost use Rattle.host_trait.specs.Runs.{OnlyAsked};
 ghost use Rattle.host_trait.specs.declared.channels.Channel.TheVariants.{File};
 ghost use Rattle.host_trait.specs.declared.channels.FileId.TheVariants.{Manager};
@@ -121,9 +121,7 @@ fn settle_both<H: Host>(host: &mut H) -> Result<(bool, bool), OpenFault>
         → (H.world host.new).syncs ≡ (H.world host.old).syncs + opening_syncs (seen_in (H.world host.old).disk)) }
     ensures only { IsTrue H.tells → OnlyOpens (H.world host.old) (H.world host.new) }
     ensures refused { IfErr result (λ e. (slot : ℕ) × (slot ≤ 1) × (e ≡ OpenFault.DiskFault (Manager slot))) }
-    ensures calm { OnOk result (NoneFailed (H.faults host.old) (H.faults host.new)) }
-    ensures fault { IfErr result (λ e. OpenFaulted e (H.faults host.old) (H.faults host.new)) }
-    ensures ready { StaysReady (H.is_ready host.old) (H.is_ready host.new) }
+    ensures calls { HasCalled OpenFaulted result H.is_ready H.faults host.old host.new }
 {
     let Ok(first) = settle(host, 0) else {
         return Err(manager_fault(0));
@@ -145,9 +143,7 @@ fn find_live<H: Host>(host: &mut H) -> Result<Option<(u8, Header)>, OpenFault>
     ensures only { IsTrue H.tells → OnlyOpens (H.world host.old) (H.world host.new) }
     ensures seen { IsTrue H.tells → seen_in (H.world host.new).disk ≡ seen_in (H.world host.old).disk }
     ensures refused { IfErr result (λ e. (slot : ℕ) × (slot ≤ 1) × (e ≡ OpenFault.DiskFault (Manager slot))) }
-    ensures calm { OnOk result (NoneFailed (H.faults host.old) (H.faults host.new)) }
-    ensures fault { IfErr result (λ e. OpenFaulted e (H.faults host.old) (H.faults host.new)) }
-    ensures ready { StaysReady (H.is_ready host.old) (H.is_ready host.new) }
+    ensures calls { HasCalled OpenFaulted result H.is_ready H.faults host.old host.new }
 {
     let (long, also) = settle_both(host)?;
     let Ok(first) = read_header(host, 0, long) else {
@@ -219,13 +215,11 @@ pub fn open_silo_in<H: Host>(
 
     // `DiskFault` is answered exactly where a call on the file failed: its count rose, and no other changed. With another answer
     // no count has changed.
-    ensures calm { OnOk result (NoneFailed (H.faults host.old) (H.faults host.new)) }
-    ensures fault { IfErr result (λ e. OpenFaulted e (H.faults host.old) (H.faults host.new)) }
+    ensures calls { HasCalled OpenFaulted result H.is_ready H.faults host.old host.new }
 
     // Whatever is answered, nothing was written or emitted, and no input was taken: each image of each moment is one of those at
     // entry, and each file is as it was, or as this call leaves it.
     ensures only { IsTrue H.tells → OnlyOpens (H.world host.old) (H.world host.new) }
-    ensures ready { StaysReady (H.is_ready host.old) (H.is_ready host.new) }
 {
     let Some((slot, header)) = find_live(host)? else {
         return Err(OpenFault::NotASilo);
@@ -275,10 +269,8 @@ pub fn open_silo<H: Host>(alloc: Global, host: &mut H) -> Result<Opened, OpenFau
     ensures not_last { IsErrOf result OpenFault.LastGeneration → ⊥ }
 
     // `DiskFault` is answered exactly where a call on the file failed, and each file is left as `open_silo_in` leaves it.
-    ensures calm { OnOk result (NoneFailed (H.faults host.old) (H.faults host.new)) }
-    ensures fault { IfErr result (λ e. OpenFaulted e (H.faults host.old) (H.faults host.new)) }
+    ensures calls { HasCalled OpenFaulted result H.is_ready H.faults host.old host.new }
     ensures only { IsTrue H.tells → OnlyOpens (H.world host.old) (H.world host.new) }
-    ensures ready { StaysReady (H.is_ready host.old) (H.is_ready host.new) }
 {
     match open_silo_in(alloc, host, Format::Two) {
         Ok(Some(opened)) => Ok(opened),

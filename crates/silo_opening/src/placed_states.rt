@@ -1,7 +1,6 @@
-ghost use Rattle.std.specs.Prelude.{◌≡◌, ◌⊎◌, ◌≤◌, IsTrue, OnOk, IfOk, IfErr, IsErrOf};
+ghost use Rattle.std.specs.Prelude.{◌≡◌, ◌⊎◌, ◌≤◌, IsTrue, IfOk, IfErr, IsErrOf};
 ghost use Rattle.base_types.specs.declared.calls.GrainId.{GrainId as AGrain};
-ghost use Rattle.host_trait.specs.Files.{StaysReady};
-ghost use Rattle.host_trait.specs.Faults.{NoneFailed};
+ghost use Rattle.host_trait.specs.Faults.{HasCalled};
 ghost use Rattle.host_trait.specs.Runs.{OnlyAsked};
 ghost use Rattle.host_trait.specs.declared.channels.FileId.TheVariants.{Grain};
 ghost use Rattle.log_reading.specs.Steps.{seen_in};
@@ -33,9 +32,7 @@ pub fn states<H: Host>(alloc: Global, host: &mut H, opened: &Opened) -> Result<S
         → (e ≡ OpenFault.Memory) ⊎ ((grain : AGrain) × (e ≡ OpenFault.DiskFault (Grain opened.now.slot grain)))) }
     ensures not_last { IsErrOf result OpenFault.LastGeneration → ⊥ }
     ensures asked { IsTrue H.tells → OnlyAsked (H.world host.old) (H.world host.new) }
-    ensures calm { OnOk result (NoneFailed (H.faults host.old) (H.faults host.new)) }
-    ensures fault { IfErr result (λ e. OpenFaulted e (H.faults host.old) (H.faults host.new)) }
-    ensures ready { StaysReady (H.is_ready host.old) (H.is_ready host.new) }
+    ensures calls { HasCalled OpenFaulted result H.is_ready H.faults host.old host.new }
 {
     match read_states(
         alloc,

@@ -1,6 +1,5 @@
-ghost use Rattle.std.specs.Prelude.{◌≡◌, ℕ, List, IsTrue, OnOk, IfErr, Result};
-ghost use Rattle.host_trait.specs.Files.{StaysReady};
-ghost use Rattle.host_trait.specs.Faults.{NoneFailed};
+ghost use Rattle.std.specs.Prelude.{◌≡◌, ℕ, List, IsTrue, Result};
+ghost use Rattle.host_trait.specs.Faults.{HasCalled};
 ghost use Rattle.program_file.specs.Answers.{program_fault_place};
 ghost use Rattle.promise_spec.specs.Words.{Manner};
 ghost use Rattle.promise_spec.specs.Commands.{MakesSilo};
@@ -84,9 +83,7 @@ pub fn init<H: Host>(alloc: Global, host: &mut H) -> Result<(), InitFault>
 
     // A fault is answered exactly where a call on its channel failed: its count rose, and no other changed. With another answer
     // no count has changed.
-    ensures calm { OnOk result (NoneFailed (H.faults host.old) (H.faults host.new)) }
-    ensures fault { IfErr result (λ e. InitFaulted e (H.faults host.old) (H.faults host.new)) }
-    ensures ready { StaysReady (H.is_ready host.old) (H.is_ready host.new) }
+    ensures calls { HasCalled InitFaulted result H.is_ready H.faults host.old host.new }
 {
     let text = match read_input(alloc, host) {
         Ok(text) => text,

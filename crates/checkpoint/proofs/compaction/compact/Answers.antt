@@ -34,7 +34,7 @@ returns-in_err-opened-clause-compacts g c =
     let w1 = g.H.Host.world c.open_silo.new.host in
     let f0 = g.H.Host.faults c.args.host.now in
     let f1 = g.H.Host.faults c.open_silo.new.host in
-    rw (p.1, p.2) λ told manner lines. inl (unopened manner lines f0 f1 Two (ending_of e) w0 w1 (c.open_silo.ensures.only told) (c.in_err-opened.ensures.refused told) (open_failed f0 f1 e c.in_err-opened.ensures.fault))
+    rw (p.1, p.2) λ told manner lines. inl (unopened manner lines f0 f1 Two (ending_of e) w0 w1 (c.open_silo.ensures.only told) (c.in_err-opened.ensures.refused told) (open_failed f0 f1 e c.in_err-opened.ensures.calls.fault))
 
 pub returns-then-opened-clause-compacts : goal.returns-then-opened-clause-compacts
 returns-then-opened-clause-compacts g c told manner lines =
@@ -47,7 +47,7 @@ returns-then-opened-clause-compacts g c told manner lines =
     let left = (c.in_ok-opened.ensures.opened told).left in
     let slot = c.in_ok-opened.ensures.bounds.slot in
     let from = subst (λ (i : Image). IsOpenedFrom i o) (sym (opens_same (opening_syncs (seen_in w0.disk)) w0 w1 opens)) ((c.in_ok-opened.ensures.opened told).opened) in
-    inr (inl (is_last manner lines f0 f1 Two o w0 w1 w1 from slot opens left (none_asked w1) c.if-opened.true c.in_ok-opened.ensures.calm))
+    inr (inl (is_last manner lines f0 f1 Two o w0 w1 w1 from slot opens left (none_asked w1) c.if-opened.true c.in_ok-opened.ensures.calls.calm))
 
 pub returns-then-opened-ge-COUNT_LIMIT-clause-compacts : goal.returns-then-opened-ge-COUNT_LIMIT-clause-compacts
 returns-then-opened-ge-COUNT_LIMIT-clause-compacts g c told manner lines =
@@ -55,7 +55,7 @@ returns-then-opened-ge-COUNT_LIMIT-clause-compacts g c told manner lines =
     let w1 = g.H.Host.world c.open_silo.new.host in
     let f0 = g.H.Host.faults c.args.host.now in
     let f1 = g.H.Host.faults c.open_silo.new.host in
-    inl (unopened manner lines f0 f1 Two Memory w0 w1 (c.open_silo.ensures.only told) tt c.in_ok-opened.ensures.calm)
+    inl (unopened manner lines f0 f1 Two Memory w0 w1 (c.open_silo.ensures.only told) tt c.in_ok-opened.ensures.calls.calm)
 
 pub returns-in-Err-clause-compacts : goal.returns-in-Err-clause-compacts
 returns-in-Err-clause-compacts g c told manner lines =
@@ -67,7 +67,7 @@ returns-in-Err-clause-compacts g c told manner lines =
     let f2 = g.H.Host.faults c.latest_versions.new.host in
     let opens = c.open_silo.ensures.only told in
     let asked = c.latest_versions.ensures.asked told in
-    inl (unopened manner lines f0 f2 Two Memory w0 w2 (opens_and_asked (opening_syncs (seen_in w0.disk)) w0 w1 w2 opens asked) tt (calm_then f0 f1 f2 c.in_ok-opened.ensures.calm c.in_ok-latest.ensures.calm))
+    inl (unopened manner lines f0 f2 Two Memory w0 w2 (opens_and_asked (opening_syncs (seen_in w0.disk)) w0 w1 w2 opens asked) tt (calm_then f0 f1 f2 c.in_ok-opened.ensures.calls.calm c.in_ok-latest.ensures.calls.calm))
 
 pub returns-in_err-latest-clause-compacts : goal.returns-in_err-latest-clause-compacts
 returns-in_err-latest-clause-compacts g c =
@@ -88,7 +88,7 @@ returns-in_err-latest-clause-compacts g c =
     let asked = c.latest_versions.ensures.asked told in
     inl (unopened manner lines f0 f2 Two (ending_of e) w0 w2 (opens_and_asked (opening_syncs (seen_in w0.disk)) w0 w1 w2 opens asked)
     (latest_refused manner lines f0 f2 Two o w0 w1 w2 from slot opens left asked e (c.in_err-latest.ensures.refused told from))
-    (calm_before (ending_of e) f0 f1 f2 c.in_ok-opened.ensures.calm (open_failed f1 f2 e c.in_err-latest.ensures.fault)))
+    (calm_before (ending_of e) f0 f1 f2 c.in_ok-opened.ensures.calls.calm (open_failed f1 f2 e c.in_err-latest.ensures.calls.fault)))
 
 pub fill-requires-clause-programs : goal.fill-requires-clause-programs
 fill-requires-clause-programs g c =
@@ -127,7 +127,7 @@ returns-in-Ok-fill-clause-compacts g c told manner lines =
     let trees : programs_in c.in-Ok.programs ≡ programs_of o = ap (λ (l : List Checked). map program_tree l) c.in-Ok.ensures.programs in
     let other : o.generation ≢ 4294967295 = c.if-opened.false in
     let low : o.generation < 2 ^ 32 = search rules in
-    inr (inr (is_compacted manner lines f0 f3 o w0 w1 w2 from slot opens left asked Done w3 other low (c.fill.ensures.quietly told).unread (c.fill.ensures.quietly told).quiet (inl refl) (calm_then f0 f2 f3 (calm_then f0 f1 f2 c.in_ok-opened.ensures.calm c.in_ok-latest.ensures.calm) c.in-Ok-fill.ensures.calm)
+    inr (inr (is_compacted manner lines f0 f3 o w0 w1 w2 from slot opens left asked Done w3 other low (c.fill.ensures.quietly told).unread (c.fill.ensures.quietly told).quiet (inl refl) (calm_then f0 f2 f3 (calm_then f0 f1 f2 c.in_ok-opened.ensures.calls.calm c.in_ok-latest.ensures.calls.calm) c.in-Ok-fill.ensures.calls.calm)
     (λ whole.
     let stay = λ (file : FileId). g.met.H.Host.seen_may_stay c.args.host.now file told in
     let stay_too = λ (file : FileId). g.met.H.Host.seen_may_stay c.latest_versions.new.host file told in
@@ -166,7 +166,7 @@ returns-clause-compacts g c told manner lines =
     let there_too : AreThere o.slot (shapes_in_turn (programs_in c.in-Ok.programs)) (seen_in w2.disk) latest = subst (λ (ts : List ProgramTree). AreThere o.slot (shapes_in_turn ts) (seen_in w2.disk) latest) (sym trees) there in
     subst (λ (e : OpenFault). Compacts (compacted_as {A = Unit {0}} manner lines w0 w3 f0 f3 (Err e))) (sym c.folder_fault.ensures)
     (inr (inr (is_compacted manner lines f0 f3 o w0 w1 w2 from slot opens left asked (ending_of (in_folder fault)) w3 other low (c.fill.ensures.quietly told).unread (c.fill.ensures.quietly told).quiet (not_damaged {A = Unit {0}} fault (λ file place same. c.in-Err-fill.ensures.damaged file place (other_value _ (FolderFault.Damaged file place) same) told there_too))
-    (calm_before (ending_of (in_folder fault)) f0 f2 f3 (calm_then f0 f1 f2 c.in_ok-opened.ensures.calm c.in_ok-latest.ensures.calm) (read_failed f2 f3 fault c.in-Err-fill.ensures.fault))
+    (calm_before (ending_of (in_folder fault)) f0 f2 f3 (calm_then f0 f1 f2 c.in_ok-opened.ensures.calls.calm c.in_ok-latest.ensures.calls.calm) (read_failed f2 f3 fault c.in-Err-fill.ensures.calls.fault))
     (λ whole.
     let stay = λ (file : FileId). g.met.H.Host.seen_may_stay c.args.host.now file told in
     let stay_too = λ (file : FileId). g.met.H.Host.seen_may_stay c.latest_versions.new.host file told in

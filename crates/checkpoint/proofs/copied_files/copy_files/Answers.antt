@@ -48,8 +48,8 @@ loop-grain-preserved g c =
       only = λ told. copied_on (1 - live) x MayBeAny 1 w0 w1 w2 (inv.only told) (c.copy_named.ensures.run told);
       copied = λ told. more_files live c.args.ends.now w0.disk w1.disk w2.disk grains (drop i grains) (drop (i + 1) grains) x (next_grain i grains no_grain within) (λ file other. (c.copy_named.ensures.run told).now.others file other) (inv.copied told)
           (copied_from live c.args.ends.now w0.disk w1.disk w2.disk x (live_stays live w0 w1 c.requires.slot (inv.only told) x) (c.in_ok-copy_named.ensures.copied told));
-      calm = λ channel. c.in_ok-copy_named.ensures.calm channel ∙ inv.calm channel;
-      ready = λ file was. c.copy_named.ensures.ready file (inv.ready file was);
+      calm = λ channel. c.in_ok-copy_named.ensures.calls.calm channel ∙ inv.calm channel;
+      ready = λ file was. c.copy_named.ensures.calls.ready file (inv.ready file was);
     }
 
 pub returns-clause-copied : goal.returns-clause-copied

@@ -46,12 +46,12 @@ loop-at-preserved g c =
     let w2 = g.H.Host.world c.copy_piece.new.host in
     record {
       low = omega (arith, inv.low, c.piece_size-size.ensures.within);
-      from = ask_still _ _ c.args.from c.copy_piece.ensures.ready inv.from;
-      to = ask_still _ _ c.args.to c.copy_piece.ensures.ready inv.to;
+      from = ask_still _ _ c.args.from c.copy_piece.ensures.calls.ready inv.from;
+      to = ask_still _ _ c.args.to c.copy_piece.ensures.calls.ready inv.to;
       run = λ told. run_then c.args.to MayBeAny MayBeAny 0 0 w0 w1 w2 (λ e d k one two. tt) (inv.run told) (c.copy_piece.ensures.run told);
       begins = λ told. subst (λ (s : FileState). BeginsAs (c.loop-at.at + c.piece_size-size.result) s.seen (w2.disk c.args.to).seen) ((inv.run told).now.others c.args.from c.requires.apart) (c.in_ok-copy_piece.ensures.copied told);
-      calm = λ channel. c.in_ok-copy_piece.ensures.calm channel ∙ inv.calm channel;
-      ready = λ file was. c.copy_piece.ensures.ready file (inv.ready file was);
+      calm = λ channel. c.in_ok-copy_piece.ensures.calls.calm channel ∙ inv.calm channel;
+      ready = λ file was. c.copy_piece.ensures.calls.ready file (inv.ready file was);
     }
 
 pub returns-in-Ok-clause-run : goal.returns-in-Ok-clause-run

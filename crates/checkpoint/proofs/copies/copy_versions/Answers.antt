@@ -57,8 +57,8 @@ loop-named-preserved g c =
       only = λ told. copied_on (1 - live) x.written.grain MayBeAny 1 w0 w1 w2 (inv.only told) (c.copy_version.ensures.run told);
       copied = λ told. more_copies live programs (seen_in w0.disk) w1.disk w2.disk c.args.latest.now now i x c.in_ok-named.field-0 (c.requires.order told) (λ file other. (c.copy_version.ensures.run told).now.others file other)
           within (next_default i now no_name within) (inv.copied told) (copied_before live programs w0 w1 w2.disk x c.in_ok-named.field-0 c.requires.slot (inv.only told) (c.in_ok-named.ensures.copied told));
-      calm = λ channel. c.in_ok-named.ensures.calm channel ∙ inv.calm channel;
-      ready = λ file was. c.copy_version.ensures.ready file (inv.ready file was);
+      calm = λ channel. c.in_ok-named.ensures.calls.calm channel ∙ inv.calm channel;
+      ready = λ file was. c.copy_version.ensures.calls.ready file (inv.ready file was);
     }
 
 pub loop-named-init : goal.loop-named-init

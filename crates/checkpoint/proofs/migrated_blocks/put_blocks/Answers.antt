@@ -69,8 +69,8 @@ loop-body-preserved g c =
           subst (λ (m : Bool). AreMigrated c.args.begins m live c.args.at (gate + 5 + c.len.result) c.in_ok-end.end w0 w3) (sym more)
           (subst (λ (n : ℕ). AreMigrated c.args.begins (more_follow piece b) live c.args.at (gate + 5 + n) c.in_ok-end.end w0 w3) (sym len) one);
       within = c.in_ok-end.ensures.within;
-      calm = λ channel. c.in_ok-end.ensures.calm channel ∙ (c.in_ok-body.ensures.calm channel ∙ inv.calm channel);
-      ready = λ file was. c.put_block.ensures.ready file (c.next_body.ensures.ready file (inv.ready file was));
+      calm = λ channel. c.in_ok-end.ensures.calls.calm channel ∙ (c.in_ok-body.ensures.calls.calm channel ∙ inv.calm channel);
+      ready = λ file was. c.put_block.ensures.calls.ready file (c.next_body.ensures.calls.ready file (inv.ready file was));
     }
 
 pub returns-clause-run : goal.returns-clause-run

@@ -29,7 +29,7 @@ returns-in-Ok-None-clause-migrates g c told manner lines =
     let f0 = g.H.Host.faults c.args.host.now in
     let f1 = g.H.Host.faults c.open_silo_in.new.host in
     let other : reading_in One (seen_in w0.disk) ≡ OtherFormat = search rules in
-    inl (unopened manner lines f0 f1 One NotOld w0 w1 (c.open_silo_in.ensures.only told) (refl, other) c.in-Ok-None.ensures.calm)
+    inl (unopened manner lines f0 f1 One NotOld w0 w1 (c.open_silo_in.ensures.only told) (refl, other) c.in-Ok-None.ensures.calls.calm)
 
 pub returns-in-Err-clause-migrates : goal.returns-in-Err-clause-migrates
 returns-in-Err-clause-migrates g c told manner lines =
@@ -38,7 +38,7 @@ returns-in-Err-clause-migrates g c told manner lines =
     let f0 = g.H.Host.faults c.args.host.now in
     let f1 = g.H.Host.faults c.open_silo_in.new.host in
     let e = c.in-Err.fault in
-    inl (unopened manner lines f0 f1 One (ending_of e) w0 w1 (c.open_silo_in.ensures.only told) (c.in-Err.ensures.refused told) (open_failed f0 f1 e c.in-Err.ensures.fault))
+    inl (unopened manner lines f0 f1 One (ending_of e) w0 w1 (c.open_silo_in.ensures.only told) (c.in-Err.ensures.refused told) (open_failed f0 f1 e c.in-Err.ensures.calls.fault))
 
 pub returns-then-opened-clause-migrates : goal.returns-then-opened-clause-migrates
 returns-then-opened-clause-migrates g c told manner lines =
@@ -51,7 +51,7 @@ returns-then-opened-clause-migrates g c told manner lines =
     let left : LeavesOpenedIn One w0 w1 o = search rules in
     let bounds : IsOpenedInBounds o = search rules in
     let from = subst (λ (i : Image). IsOpenedIn One i o) (sym (opens_same (opening_syncs (seen_in w0.disk)) w0 w1 opens)) left.opened in
-    inr (inl (is_last manner lines f0 f1 One o w0 w1 w1 from bounds.slot opens left.left (none_asked w1) c.if-opened.true c.in-Ok-Some.ensures.calm))
+    inr (inl (is_last manner lines f0 f1 One o w0 w1 w1 from bounds.slot opens left.left (none_asked w1) c.if-opened.true c.in-Ok-Some.ensures.calls.calm))
 
 pub returns-in-Err-old_silo-clause-migrates : goal.returns-in-Err-old_silo-clause-migrates
 returns-in-Err-old_silo-clause-migrates g c told manner lines =
@@ -59,7 +59,7 @@ returns-in-Err-old_silo-clause-migrates g c told manner lines =
     let w1 = g.H.Host.world c.open_silo_in.new.host in
     let f0 = g.H.Host.faults c.args.host.now in
     let f1 = g.H.Host.faults c.open_silo_in.new.host in
-    inl (unopened manner lines f0 f1 One Memory w0 w1 (c.open_silo_in.ensures.only told) tt c.in-Ok-Some.ensures.calm)
+    inl (unopened manner lines f0 f1 One Memory w0 w1 (c.open_silo_in.ensures.only told) tt c.in-Ok-Some.ensures.calls.calm)
 
 pub copy_silo-requires-clause-long : goal.copy_silo-requires-clause-long
 copy_silo-requires-clause-long g c told =
@@ -88,7 +88,7 @@ returns-in-Ok-copy_silo-clause-migrates g c told manner lines =
     let other : o.generation ≢ 4294967295 = c.if-opened.false in
     let low : o.generation < 2 ^ 32 = search rules in
     let quietly = c.copy_silo.ensures.quietly told in
-    inr (inr (is_migrated manner lines f0 f2 o w0 w1 w1 from bounds.slot opens left.left (none_asked w1) Done w2 other low quietly.unread quietly.quiet (inl refl) (calm_then f0 f1 f2 c.in-Ok-Some.ensures.calm c.in-Ok-copy_silo.ensures.calm)
+    inr (inr (is_migrated manner lines f0 f2 o w0 w1 w1 from bounds.slot opens left.left (none_asked w1) Done w2 other low quietly.unread quietly.quiet (inl refl) (calm_then f0 f1 f2 c.in-Ok-Some.ensures.calls.calm c.in-Ok-copy_silo.ensures.calls.calm)
     (λ whole.
     let stay = λ (file : FileId). g.met.H.Host.seen_may_stay c.args.host.now file told in
     let stay_too = λ (file : FileId). g.met.H.Host.seen_may_stay c.open_silo_in.new.host file told in
@@ -117,7 +117,7 @@ returns-clause-migrates g c told manner lines =
     subst (λ (e : OpenFault). Migrates (migrated_as {A = Unit {0}} manner lines w0 w2 f0 f2 (Err (MigrateFault.Open e)))) (sym c.folder_fault.ensures)
     (inr (inr (is_migrated manner lines f0 f2 o w0 w1 w1 from bounds.slot opens left.left (none_asked w1) (ending_of (in_folder fault)) w2 other low quietly.unread quietly.quiet
     (not_damaged {A = Unit {0}} fault (λ file place same. c.in-Err-copy_silo.ensures.damaged file place (other_value _ (FolderFault.Damaged file place) same) told (can_be_copied o silo c.in-Ok.ensures w1 from)))
-    (calm_before (ending_of (in_folder fault)) f0 f1 f2 c.in-Ok-Some.ensures.calm (read_failed f1 f2 fault c.in-Err-copy_silo.ensures.fault))
+    (calm_before (ending_of (in_folder fault)) f0 f1 f2 c.in-Ok-Some.ensures.calls.calm (read_failed f1 f2 fault c.in-Err-copy_silo.ensures.calls.fault))
     (λ whole.
     let stay = λ (file : FileId). g.met.H.Host.seen_may_stay c.args.host.now file told in
     let stay_too = λ (file : FileId). g.met.H.Host.seen_may_stay c.open_silo_in.new.host file told in

@@ -26,10 +26,15 @@ pub returns-in_err-end-clause-run : goal.returns-in_err-end-clause-run
 returns-in_err-end-clause-run g c told =
     run_then (Manager c.args.slot) KeepsGate KeepsGate 0 0 _ _ _ (λ e d k one two. two ∙ one) (c.loop-rest.invariant.run told) (c.put_piece.ensures.run told)
 
-pub returns-in_err-end-clause-fault : goal.returns-in_err-end-clause-fault
-returns-in_err-end-clause-fault g c =
+pub returns-in_err-end-clause-calls : goal.returns-in_err-end-clause-calls
+returns-in_err-end-clause-calls g c =
     let p = err_from_is_err_and c.from_residual.result c.from_residual.ensures.1 in
-    rw (p.1, p.2) (calm_read _ _ _ _ c.loop-rest.invariant.calm c.in_err-end.ensures.fault)
+    let inv = c.loop-rest.invariant in
+    rw (p.1, p.2) (record {
+      ready = λ file was. c.put_piece.ensures.calls.ready file (inv.ready file was);
+      calm = tt;
+      fault = calm_read _ _ _ _ inv.calm c.in_err-end.ensures.calls.fault;
+    })
 
 pub loop-rest-preserved : goal.loop-rest-preserved
 loop-rest-preserved g c =
@@ -51,8 +56,8 @@ loop-rest-preserved g c =
       written = more_front g.H.Host.tells c.args.slot c.args.at c.loop-rest.end c.in_ok-end.end c.args.head c.args.copies.now rest piece behind w0 w1 w2 inv.written split size c.in_ok-end.ensures.fits c.in_ok-end.ensures.end.0
           c.requires.place c.in_ok-end.ensures.written;
       within = c.in_ok-end.ensures.within;
-      calm = λ channel. c.in_ok-end.ensures.calm channel ∙ inv.calm channel;
-      ready = λ file was. c.put_piece.ensures.ready file (inv.ready file was);
+      calm = λ channel. c.in_ok-end.ensures.calls.calm channel ∙ inv.calm channel;
+      ready = λ file was. c.put_piece.ensures.calls.ready file (inv.ready file was);
     }
 
 pub returns-in_err-end-clause-whole : goal.returns-in_err-end-clause-whole

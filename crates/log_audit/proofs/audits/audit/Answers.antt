@@ -63,8 +63,12 @@ returns-in-Ok-replay_log-clause-settled g c told live is =
     let here : new.disk (Manager opened.slot) ≡ settled (old.disk (Manager opened.slot)).seen = ap (λ (d : Disk). d (Manager opened.slot)) (c.replay_log.ensures.asked told).disk ∙ (c.in-Ok.ensures.opened told).settled in
     subst (λ (slot : ℕ). new.disk (Manager slot) ≡ settled (old.disk (Manager slot)).seen) (one_slot opened.slot live (seen_in old.disk) read is) here
 
-pub returns-in-Ok-replay_log-clause-calm : goal.returns-in-Ok-replay_log-clause-calm
-returns-in-Ok-replay_log-clause-calm g c = none_then _ _ _ c.in-Ok.ensures.calm c.in-Ok-replay_log.ensures.calm
+pub returns-in-Ok-replay_log-clause-calls : goal.returns-in-Ok-replay_log-clause-calls
+returns-in-Ok-replay_log-clause-calls g c = record {
+  ready = λ file was. c.replay_log.ensures.calls.ready file (c.open_silo.ensures.calls.ready file was);
+  calm = none_then _ _ _ c.in-Ok.ensures.calls.calm c.in-Ok-replay_log.ensures.calls.calm;
+  fault = tt;
+}
 
 pub returns-in-Ok-replay_log-clause-only : goal.returns-in-Ok-replay_log-clause-only
 returns-in-Ok-replay_log-clause-only g c told = opens_and_asked _ _ _ _ (c.in-Ok.ensures.only told) (c.replay_log.ensures.asked told)
@@ -86,12 +90,16 @@ returns-clause-refused g c told =
     let again : IsRereadFault opened.slot o.first image o.read fault = subst (λ (im : Image). IsRereadFault opened.slot o.first im o.read fault) same (c.in-Err-replay_log.ensures.unread told o.first typed o.read read) in
     subst (λ (e : OpenFault). IsRefusedBy Two image (opened_as image) (ending_of e)) (sym c.not_read.ensures) (refused_again image opened o fault again)
 
-pub returns-clause-fault : goal.returns-clause-fault
-returns-clause-fault g c =
-    let calm = c.in-Ok.ensures.calm in
+pub returns-clause-calls : goal.returns-clause-calls
+returns-clause-calls g c =
+    let calm = c.in-Ok.ensures.calls.calm in
     let late : OpenFaulted c.not_read.result (g.H.Host.faults c.open_silo.new.host) (g.H.Host.faults c.replay_log.new.host) =
-    subst (λ (e : OpenFault). OpenFaulted e (g.H.Host.faults c.open_silo.new.host) (g.H.Host.faults c.replay_log.new.host)) (sym c.not_read.ensures) (open_faulted _ _ c.in-Err-replay_log.fault c.in-Err-replay_log.ensures.fault) in
-    subst (λ (x : Channel → ℕ). OpenFaulted c.not_read.result x (g.H.Host.faults c.replay_log.new.host)) (λ i channel. calm channel i) late
+    subst (λ (e : OpenFault). OpenFaulted e (g.H.Host.faults c.open_silo.new.host) (g.H.Host.faults c.replay_log.new.host)) (sym c.not_read.ensures) (open_faulted _ _ c.in-Err-replay_log.fault c.in-Err-replay_log.ensures.calls.fault) in
+    record {
+      ready = λ file was. c.replay_log.ensures.calls.ready file (c.open_silo.ensures.calls.ready file was);
+      calm = tt;
+      fault = subst (λ (x : Channel → ℕ). OpenFaulted c.not_read.result x (g.H.Host.faults c.replay_log.new.host)) (λ i channel. calm channel i) late;
+    }
 
 pub returns-clause-not_last : goal.returns-clause-not_last
 returns-clause-not_last g c = never_last c.not_read.result c.in-Err-replay_log.fault c.not_read.ensures

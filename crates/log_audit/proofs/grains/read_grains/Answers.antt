@@ -23,8 +23,8 @@ loop-now-init g c = record {
       (c.in_ok-base.ensures.begins told p (shape_same p c.args.first c.requires.shape typed))
       (c.in_ok-add_written.ensures ∙ (λ i. grains_added (c.new-grains.ensures.empty i) (map (λ w. w.grain) (c.as_slice.ensures i))));
   asked = c.read_base.ensures.asked;
-  calm = c.in_ok-base.ensures.calm;
-  ready = c.read_base.ensures.ready;
+  calm = c.in_ok-base.ensures.calls.calm;
+  ready = c.read_base.ensures.calls.ready;
 }
 
 pub next_entry-requires-clause-shape : goal.next_entry-requires-clause-shape
@@ -78,8 +78,8 @@ loop-now-preserved g c =
           let there : next_in Two types last gate file ≡ Ok (Some (session, entry, behind)) = subst (λ (d : Disk). next_in Two types last gate (d (Manager c.args.slot)).seen ≡ Ok (Some (session, entry, behind))) (inv.asked told).disk here in
           subst (λ (t : ProgramTree). HasGrains p file session behind t c.add_said.new.grains.keys) (sym c.in_ok-add_said.ensures.behind) (grains_more p file last gate types c.loop-now.grains.keys (inv.has told p typed) session entry behind c.add_said.new.grains.keys c.in_ok-add_said.ensures.grains there);
       asked = λ told. asked_then _ _ _ (inv.asked told) (c.next_entry.ensures.asked told);
-      calm = none_then _ _ _ inv.calm c.in_ok-session.ensures.calm;
-      ready = λ at was. c.next_entry.ensures.ready at (inv.ready at was);
+      calm = none_then _ _ _ inv.calm c.in_ok-session.ensures.calls.calm;
+      ready = λ at was. c.next_entry.ensures.calls.ready at (inv.ready at was);
     }
 
 pub returns-clause-found : goal.returns-clause-found

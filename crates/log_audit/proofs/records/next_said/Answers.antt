@@ -20,4 +20,4 @@ returns-in-Err-clause-unread g c told =
     (block_fault types file c.args.session c.args.gate_at c.in-Err.fault (λ at place is. c.in-Err.ensures.damaged at place is told))
 
 pub returns-in-Err-clause-exact : goal.returns-in-Err-clause-exact
-returns-in-Err-clause-exact g c = subst (λ (e : ReportFault). HasFailedAs (fault_ending e) (g.H.Host.faults c.args.host.now) (g.H.Host.faults c.next_entry.new.host)) (sym c.unread.ensures) (folder_failed _ _ c.in-Err.fault c.in-Err.ensures.fault)
+returns-in-Err-clause-exact g c = subst (λ (e : ReportFault). HasFailedAs (fault_ending e) (g.H.Host.faults c.args.host.now) (g.H.Host.faults c.next_entry.new.host)) (sym c.unread.ensures) (folder_failed _ _ c.in-Err.fault c.in-Err.ensures.calls.fault)

@@ -27,8 +27,8 @@ loop-now-init g c = record {
   shaped = c.requires.shape;
   puts = λ told p typed. copied_none p ((g.H.Host.world c.args.host.now).disk (Manager c.args.slot)).seen (log_base_of c.in-Ok.base) c.in-Ok.base.session c.in-Ok.base.gate_at (types_in_force c.args.first) (g.H.Host.world c.args.host.now) (g.H.Host.world c.read_base.new.host)
       typed (c.in-Ok.ensures.begins told p (shape_same p c.args.first c.requires.shape typed)) (c.read_base.ensures.asked told);
-  calm = c.in-Ok.ensures.calm;
-  ready = c.read_base.ensures.ready;
+  calm = c.in-Ok.ensures.calls.calm;
+  ready = c.read_base.ensures.calls.ready;
 }
 
 pub returns-in-Err-clause-puts : goal.returns-in-Err-clause-puts
@@ -41,7 +41,7 @@ returns-in-Err-clause-ended g c told p typed log is =
     (log_fault p file c.args.slot c.in-Err.fault (λ at place fault. c.in-Err.ensures.damaged at place fault told p (shape_same p c.args.first c.requires.shape typed)) (λ at fault. c.in-Err.ensures.failed at fault)))
 
 pub returns-in-Err-clause-exact : goal.returns-in-Err-clause-exact
-returns-in-Err-clause-exact g c = subst (λ (e : ReportFault). HasFailedAs (fault_ending e) (g.H.Host.faults c.args.host.now) (g.H.Host.faults c.read_base.new.host)) (sym c.unread.ensures) (folder_failed _ _ c.in-Err.fault c.in-Err.ensures.fault)
+returns-in-Err-clause-exact g c = subst (λ (e : ReportFault). HasFailedAs (fault_ending e) (g.H.Host.faults c.args.host.now) (g.H.Host.faults c.read_base.new.host)) (sym c.unread.ensures) (folder_failed _ _ c.in-Err.fault c.in-Err.ensures.calls.fault)
 
 pub returns-in_err-session-clause-puts : goal.returns-in_err-session-clause-puts
 returns-in_err-session-clause-puts g c =

@@ -43,10 +43,25 @@ returns-in_err-version-clause-unread g c =
     (λ at place is. subst (λ (d : Disk). version_named c.args.slot Two shape (seen_in d) (named_as r.unit x) ≡ Err place) (inv.asked told).disk (c.in_err-version.ensures.damaged at place is told))
     (λ at is. c.in_err-version.ensures.failed at is)
 
-pub returns-in_err-version-clause-fault : goal.returns-in_err-version-clause-fault
-returns-in_err-version-clause-fault g c =
+pub returns-in_err-version-clause-calls : goal.returns-in_err-version-clause-calls
+returns-in_err-version-clause-calls g c =
     let p = err_from_is_err_and c.from_residual.result c.from_residual.ensures.1 in
-    rw (p.1, p.2) (read_then _ _ _ c.in_err-version.field-0.0 c.loop-one.invariant.calm c.in_err-version.ensures.fault)
+    let inv = c.loop-one.invariant in
+    rw (p.1, p.2) record {
+      ready = λ file was. c.named_version.ensures.calls.ready file (inv.ready file was);
+      calm = tt;
+      fault = read_then _ _ _ c.in_err-version.field-0.0 inv.calm c.in_err-version.ensures.calls.fault;
+    }
+
+pub returns-in_err-push-clause-calls : goal.returns-in_err-push-clause-calls
+returns-in_err-push-clause-calls g c =
+    let p = err_from_is_err_and c.from_residual-in_err-push.result c.from_residual-in_err-push.ensures.1 in
+    let inv = c.loop-one.invariant in
+    rw (p.1, p.2) record {
+      ready = λ file was. c.named_version.ensures.calls.ready file (inv.ready file was);
+      calm = tt;
+      fault = none_then _ _ _ inv.calm c.in_ok-version.ensures.calls.calm;
+    }
 
 pub returns-in_err-version-clause-asked : goal.returns-in_err-version-clause-asked
 returns-in_err-version-clause-asked g c told = asked_then _ _ _ (c.loop-one.invariant.asked told) (c.named_version.ensures.asked told)
@@ -71,8 +86,8 @@ loop-one-preserved g c =
           version_more c.args.slot shape image r.unit x (drop (i + 1) xs) (drop i xs) v _ _ _ (next_default i xs no_write c.loop-one-test.true) pushed found (inv.writes told);
       fits = λ types is. fits_more types c.loop-one.kept.items _ x.grain v.state pushed (version_fits types shape x.grain Two x.place.len v is c.in_ok-version.ensures.shaped) (inv.fits types is);
       asked = λ told. asked_then _ _ _ (inv.asked told) (c.named_version.ensures.asked told);
-      calm = none_then _ _ _ inv.calm c.in_ok-version.ensures.calm;
-      ready = λ file was. c.named_version.ensures.ready file (inv.ready file was);
+      calm = none_then _ _ _ inv.calm c.in_ok-version.ensures.calls.calm;
+      ready = λ file was. c.named_version.ensures.calls.ready file (inv.ready file was);
     }
 
 pub returns-clause-writes : goal.returns-clause-writes

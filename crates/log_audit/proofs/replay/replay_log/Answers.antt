@@ -48,8 +48,8 @@ loop-now-init g c =
           (stands_saved c.args.slot p image (record { base = base; entries = [] }) store (λ grain. c.in_ok-store.ensures.held told grain ∙ ap (λ (ws : List (GrainId × List Value)). is_among ws grain) saved)
           (c.in_ok-store.ensures.states told p.types ∙ ap (λ (ws : List (GrainId × List Value)). fold put_state (first_states p.types) ws) saved));
       asked = λ told. asked_then _ _ _ (c.read_base.ensures.asked told) (c.saved_store.ensures.asked told);
-      calm = none_then _ _ _ c.in_ok-base.ensures.calm c.in_ok-store.ensures.calm;
-      ready = λ at was. c.saved_store.ensures.ready at (c.read_base.ensures.ready at was);
+      calm = none_then _ _ _ c.in_ok-base.ensures.calls.calm c.in_ok-store.ensures.calls.calm;
+      ready = λ at was. c.saved_store.ensures.calls.ready at (c.read_base.ensures.calls.ready at was);
     }
 
 pub next_entry-requires-clause-shape : goal.next_entry-requires-clause-shape
@@ -182,8 +182,8 @@ loop-now-preserved g c =
           subst (λ (t : ProgramTree). HasAudited p c.args.slot image file session behind t c.replay_said.new.store) (sym c.in_ok-found.ensures.behind)
           (audit_next p c.args.slot image file last gate types c.loop-now.store h session entry behind there c.replay_said.new.store found none to);
       asked = λ told. asked_then _ _ _ (asked_then _ _ _ (inv.asked told) (c.next_entry.ensures.asked told)) (c.replay_said.ensures.asked told);
-      calm = none_then _ _ _ (none_then _ _ _ inv.calm c.in_ok-session.ensures.calm) c.in_ok-found.ensures.calm;
-      ready = λ at was. c.replay_said.ensures.ready at (c.next_entry.ensures.ready at (inv.ready at was));
+      calm = none_then _ _ _ (none_then _ _ _ inv.calm c.in_ok-session.ensures.calls.calm) c.in_ok-found.ensures.calls.calm;
+      ready = λ at was. c.replay_said.ensures.calls.ready at (c.next_entry.ensures.calls.ready at (inv.ready at was));
     }
 
 pub returns-clause-replays : goal.returns-clause-replays

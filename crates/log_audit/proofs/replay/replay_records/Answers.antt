@@ -86,8 +86,8 @@ loop-entry-preserved g c =
           replayed_next _ _ _ before xs _ (drop (i + 1) xs) x _ _ found h (next_item i xs x c.loop-entry-test.true c.entry-item.is) none to;
       fits = λ was. c.in_ok-found.ensures.fits (inv.fits was);
       asked = λ told. asked_then _ _ _ (inv.asked told) (c.replay.ensures.asked told);
-      calm = none_then _ _ _ inv.calm c.in_ok-found.ensures.calm;
-      ready = λ file was. c.replay.ensures.ready file (inv.ready file was);
+      calm = none_then _ _ _ inv.calm c.in_ok-found.ensures.calls.calm;
+      ready = λ file was. c.replay.ensures.calls.ready file (inv.ready file was);
     }
 
 pub returns-clause-replays : goal.returns-clause-replays

@@ -16,7 +16,6 @@ use Rattle.log_audit.specs.Replays.{states_saved_at}
 use Rattle.log_audit.proofs.CarriedStores.{none_fits, put_fits, version_fits}
 use Rattle.log_audit.proofs.SavedStates.{held_more, states_more, held_none, states_none}
 use Rattle.log_audit.proofs.Versions.{saved_as, version_fault, in_seam}
-use Rattle.log_audit.proofs.RereadFaults.{read_then}
 use Rattle.log_audit.proofs.replay.saved_store.Goals as goal
 
 abbrev no_write : Written
@@ -45,11 +44,6 @@ returns-in_err-version-clause-unread g c =
     (λ at place is. subst (λ (d : Disk). version_named c.args.slot Two shape (seen_in d) (saved_as x) ≡ Err place) (inv.asked told).disk (c.in_err-version.ensures.damaged at place is told))
     (λ at is. c.in_err-version.ensures.failed at is)
 
-pub returns-in_err-version-clause-fault : goal.returns-in_err-version-clause-fault
-returns-in_err-version-clause-fault g c =
-    let p = err_from_is_err_and c.from_residual.result c.from_residual.ensures.1 in
-    rw (p.1, p.2) (read_then _ _ _ c.in_err-version.field-0.0 c.loop-written.invariant.calm c.in_err-version.ensures.fault)
-
 pub returns-in_err-version-clause-asked : goal.returns-in_err-version-clause-asked
 returns-in_err-version-clause-asked g c told = asked_then _ _ _ (c.loop-written.invariant.asked told) (c.named_version.ensures.asked told)
 
@@ -71,8 +65,8 @@ loop-written-preserved g c =
       states = λ told types. states_more c.args.slot shape image x (drop (i + 1) xs) (drop i xs) v c.loop-written.store c.put.new.self (next_default i xs no_write c.loop-written-test.true) (found told) c.in_ok-put.ensures.ok types _ (inv.states told types);
       fits = λ types is. put_fits types c.loop-written.store c.put.new.self x.grain v.state c.in_ok-put.ensures.ok (version_fits types shape x.grain Two x.place.len v is c.in_ok-version.ensures.shaped) (inv.fits types is);
       asked = λ told. asked_then _ _ _ (inv.asked told) (c.named_version.ensures.asked told);
-      calm = none_then _ _ _ inv.calm c.in_ok-version.ensures.calm;
-      ready = λ file was. c.named_version.ensures.ready file (inv.ready file was);
+      calm = none_then _ _ _ inv.calm c.in_ok-version.ensures.calls.calm;
+      ready = λ file was. c.named_version.ensures.calls.ready file (inv.ready file was);
     }
 
 pub returns-clause-held : goal.returns-clause-held

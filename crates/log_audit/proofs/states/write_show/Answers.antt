@@ -41,7 +41,7 @@ returns-in-Err-clause-ended g c told o = opened_ends c.args.opened.slot c.in-Err
 
 pub returns-in-Err-clause-exact : goal.returns-in-Err-clause-exact
 returns-in-Err-clause-exact g c =
-    subst (λ (e : Ending). HasFailedAs e (g.H.Host.faults c.args.host.now) (g.H.Host.faults c.states.new.host)) (sym c.unopened.ensures) (open_failed _ _ c.in-Err.fault c.in-Err.ensures.fault)
+    subst (λ (e : Ending). HasFailedAs e (g.H.Host.faults c.args.host.now) (g.H.Host.faults c.states.new.host)) (sym c.unopened.ensures) (open_failed _ _ c.in-Err.fault c.in-Err.ensures.calls.fault)
 
 pub returns-in_err-shape-clause-puts : goal.returns-in_err-shape-clause-puts
 returns-in_err-shape-clause-puts g c =
@@ -80,7 +80,7 @@ returns-in-Err-read_grains-clause-ended g c told o =
 pub returns-in-Err-read_grains-clause-exact : goal.returns-in-Err-read_grains-clause-exact
 returns-in-Err-read_grains-clause-exact g c =
     subst (λ (e : ReportFault). HasFailedAs (fault_ending e) (g.H.Host.faults c.args.host.now) (g.H.Host.faults c.read_grains.new.host)) (sym c.unread.ensures)
-    (failed_then _ _ _ _ c.in-Ok.ensures.calm (folder_failed _ _ c.in-Err-read_grains.fault c.in-Err-read_grains.ensures.fault))
+    (failed_then _ _ _ _ c.in-Ok.ensures.calls.calm (folder_failed _ _ c.in-Err-read_grains.fault c.in-Err-read_grains.ensures.calls.fault))
 
 pub returns-in_err-write_grains-clause-puts : goal.returns-in_err-write_grains-clause-puts
 returns-in_err-write_grains-clause-puts g c =
@@ -107,7 +107,7 @@ returns-in_err-write_grains-clause-puts g c =
 pub returns-in_err-write_grains-clause-exact : goal.returns-in_err-write_grains-clause-exact
 returns-in_err-write_grains-clause-exact g c =
     let p = err_from_is_err_and c.from_residual-in_err-write_grains.result c.from_residual-in_err-write_grains.ensures.1 in
-    rw (p.1, p.2) (failed_then _ _ _ _ (none_then _ _ _ c.in-Ok.ensures.calm c.in-Ok-read_grains.ensures.calm) c.in_err-write_grains.ensures.exact)
+    rw (p.1, p.2) (failed_then _ _ _ _ (none_then _ _ _ c.in-Ok.ensures.calls.calm c.in-Ok-read_grains.ensures.calls.calm) c.in_err-write_grains.ensures.exact)
 
 pub returns-in_err-line-clause-puts : goal.returns-in_err-line-clause-puts
 returns-in_err-line-clause-puts g c =
@@ -156,4 +156,4 @@ returns-clause-puts g c told o =
     )
 
 pub returns-clause-exact : goal.returns-clause-exact
-returns-clause-exact g c = failed_then _ _ _ _ (none_then _ _ _ (none_then _ _ _ c.in-Ok.ensures.calm c.in-Ok-read_grains.ensures.calm) c.in_ok-write_grains.ensures.exact) c.write_line.ensures.exact
+returns-clause-exact g c = failed_then _ _ _ _ (none_then _ _ _ (none_then _ _ _ c.in-Ok.ensures.calls.calm c.in-Ok-read_grains.ensures.calls.calm) c.in_ok-write_grains.ensures.exact) c.write_line.ensures.exact

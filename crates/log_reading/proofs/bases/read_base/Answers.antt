@@ -6,7 +6,6 @@ use Rattle.gate_block.specs.Log.{bodies_of, gate_of}
 use Rattle.host_trait.specs.World.{Disk}
 use Rattle.host_trait.specs.declared.channels.FileId.TheVariants.{Manager}
 use Rattle.host_trait.proofs.Runs.{asked_then}
-use Rattle.host_trait.proofs.Counts.{none_then}
 use Rattle.commit_log.specs.declared.records.Written.{Written}
 use Rattle.log_reading.specs.declared.faults.FolderFault.{FolderFault}
 use Rattle.log_reading.specs.Blocks.{header_damage, behind_header, log_as, log_in_file}
@@ -46,9 +45,6 @@ returns-in-Ok-read_checkpoint-clause-begins g c told p shape =
 
 pub returns-in-Ok-read_checkpoint-clause-asked : goal.returns-in-Ok-read_checkpoint-clause-asked
 returns-in-Ok-read_checkpoint-clause-asked g c told = asked_then _ _ _ (c.check_header.ensures.asked told) (c.read_checkpoint.ensures.asked told)
-
-pub returns-in-Ok-read_checkpoint-clause-calm : goal.returns-in-Ok-read_checkpoint-clause-calm
-returns-in-Ok-read_checkpoint-clause-calm g c = none_then _ _ _ c.in-Ok.ensures.calm c.in-Ok-read_checkpoint.ensures.calm
 
 pub returns-in-Err-read_checkpoint-clause-damaged : goal.returns-in-Err-read_checkpoint-clause-damaged
 returns-in-Err-read_checkpoint-clause-damaged g c file place is told p shape =

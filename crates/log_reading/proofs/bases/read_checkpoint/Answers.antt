@@ -69,8 +69,8 @@ loop-saved-preserved g c =
           let at_last : next_piece_in format shape first (last_of before) gate seen ≡ Ok (piece, behind) = subst (λ (l : Option GrainId). next_piece_in format shape first l gate seen ≡ Ok (piece, behind)) inv.last there in
           subst (λ (l : List Written). FollowsPieces format of_text seen (Some piece.head) l behind) (sym saved) (pieces_on format of_text seen first before gate (inv.pieces told of_text same begins) piece behind (subst (λ (s : Shape). next_piece_in format s first (last_of before) gate seen ≡ Ok (piece, behind)) (sym same) at_last) more);
       asked = λ told. asked_then _ _ _ (inv.asked told) (c.next_piece.ensures.asked told);
-      calm = none_then _ _ _ inv.calm c.in_ok-piece.ensures.calm;
-      ready = λ file was. c.next_piece.ensures.ready file (inv.ready file was);
+      calm = none_then _ _ _ inv.calm c.in_ok-piece.ensures.calls.calm;
+      ready = λ file was. c.next_piece.ensures.calls.ready file (inv.ready file was);
     }
 
 pub returns-then-not-piece-clause-begins : goal.returns-then-not-piece-clause-begins

@@ -42,8 +42,8 @@ loop-so_far-init g c =
           let shape : shape_in p ≡ c.in_ok-shape.shape = (λ i. record { types = (ap type_shapes same ∙ sym c.in_ok-shape.ensures) i }) in
           has_begun g.H.Host.tells c.args.format p seen (log_base_of base) base.gate_at s is.count is.next is.named is.later (is.shape ∙ ap type_shapes (sym same)) is.text (λ told. c.in-Ok.ensures.begins told p shape);
       asked = c.read_base.ensures.asked;
-      calm = c.in-Ok.ensures.calm;
-      ready = c.read_base.ensures.ready;
+      calm = c.in-Ok.ensures.calls.calm;
+      ready = c.read_base.ensures.calls.ready;
     }
 
 -- the shape that is known is that of the program in force
@@ -122,8 +122,8 @@ loop-so_far-preserved g c =
           let here : next_in format types session gate (seen (g.H.Host.world c.loop-so_far.host).disk) ≡ Ok (Some (own, entry, behind)) = search rules in
           subst (λ (t : ProgramTree). next_in format t session gate (seen (g.H.Host.world c.args.host.now).disk) ≡ Ok (Some (own, entry, behind))) (sym of_p) (subst (λ (d : Disk). next_in format types session gate (seen d) ≡ Ok (Some (own, entry, behind))) (inv.asked told).disk here));
       asked = λ told. asked_then _ _ _ (inv.asked told) (c.next_said.ensures.asked told);
-      calm = none_then _ _ _ inv.calm c.in_ok-own.ensures.calm;
-      ready = λ file was. c.next_said.ensures.ready file (inv.ready file was);
+      calm = none_then _ _ _ inv.calm c.in_ok-own.ensures.calls.calm;
+      ready = λ file was. c.next_said.ensures.calls.ready file (inv.ready file was);
     }
 
 pub returns-clause-log : goal.returns-clause-log

@@ -50,8 +50,8 @@ loop-grain-preserved g c =
           reread_more c.args.slot format programs image places x (drop (i + 1) xs) (drop i xs) other (state_in c.loop-grain.store other) _ _ next
           (c.in_ok-read_state.ensures.stand told other ∙ ap (λ (im : Image). state_reread c.args.slot format programs im places (state_in c.loop-grain.store other) x other) (ap seen_in (inv.asked told).disk)) (inv.stand told other);
       asked = λ told. asked_then _ _ _ (inv.asked told) (c.read_state.ensures.asked told);
-      calm = none_then _ _ _ inv.calm c.in_ok-read_state.ensures.calm;
-      ready = λ file was. c.read_state.ensures.ready file (inv.ready file was);
+      calm = none_then _ _ _ inv.calm c.in_ok-read_state.ensures.calls.calm;
+      ready = λ file was. c.read_state.ensures.calls.ready file (inv.ready file was);
     }
 
 pub returns-clause-stand : goal.returns-clause-stand

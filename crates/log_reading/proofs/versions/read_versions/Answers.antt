@@ -120,8 +120,8 @@ loop-one-preserved g c =
       numbered = λ was. program_more programs x v (length programs) c.loop-one.places c.keep.new.places (subst (λ (n : ℕ). x.program < n) counts c.in_ok-version.ensures.numbered) c.in_ok-keep.ensures.places (inv.numbered was);
       near = λ was grain. near_more x grain _ _ (c.in_ok-version.ensures.near) (c.in_ok-keep.ensures.ends grain) (inv.near was grain);
       asked = λ told. asked_then _ _ _ (asked_then _ _ _ (inv.asked told) (c.refill.ensures.asked told)) (c.numbered_version.ensures.asked told);
-      calm = none_then _ _ _ (none_then _ _ _ inv.calm c.in_ok-refill.ensures.calm) c.in_ok-version.ensures.calm;
-      ready = λ file was. c.numbered_version.ensures.ready file (c.refill.ensures.ready file (inv.ready file was));
+      calm = none_then _ _ _ (none_then _ _ _ inv.calm c.in_ok-refill.ensures.calls.calm) c.in_ok-version.ensures.calls.calm;
+      ready = λ file was. c.numbered_version.ensures.calls.ready file (c.refill.ensures.calls.ready file (inv.ready file was));
     }
 
 pub returns-clause-kept : goal.returns-clause-kept

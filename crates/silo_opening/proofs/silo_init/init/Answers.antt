@@ -22,13 +22,17 @@ returns-in-Err-clause-makes g c told manner asked =
     let after = g.H.Host.faults c.read_input.new.host in
     subst (λ (e : InitFault). MakesSilo (ended_with {A = Unit {0}} manner asked old new before after (failed e))) (sym c.input_fault.ensures)
     (input_refused (Unit {0}) manner asked old new before after (c.read_input.ensures.disk told) (c.read_input.ensures.output told) (c.read_input.ensures.moments told)
-    c.in-Err.fault c.in-Err.ensures.counts (λ is. c.in-Err.ensures.too_long is told))
+    c.in-Err.fault c.in-Err.ensures.calls.fault (λ is. c.in-Err.ensures.too_long is told))
 
-pub returns-in-Err-clause-fault : goal.returns-in-Err-clause-fault
-returns-in-Err-clause-fault g c =
+pub returns-in-Err-clause-calls : goal.returns-in-Err-clause-calls
+returns-in-Err-clause-calls g c =
     let before = g.H.Host.faults c.args.host.now in
     let after = g.H.Host.faults c.read_input.new.host in
-    subst (λ (e : InitFault). InitFaulted e before after) (sym c.input_fault.ensures) (input_counts before after c.in-Err.fault c.in-Err.ensures.counts)
+    record {
+      ready = c.read_input.ensures.calls.ready;
+      calm = tt;
+      fault = subst (λ (e : InitFault). InitFaulted e before after) (sym c.input_fault.ensures) (input_counts before after c.in-Err.fault c.in-Err.ensures.calls.fault);
+    }
 
 pub returns-in-Err-accept-clause-makes : goal.returns-in-Err-accept-clause-makes
 returns-in-Err-accept-clause-makes g c told manner asked =
@@ -44,11 +48,15 @@ returns-in-Err-accept-clause-makes g c told manner asked =
     (program_refused (Unit {0}) manner asked old new before after (c.read_input.ensures.disk told) (c.read_input.ensures.output told) (c.read_input.ensures.moments told)
     fault (c.in-Ok.ensures.end told) (subst (λ (t : List ℕ). length t ≤ 262144) (sym same) small) (subst (λ (t : List ℕ). IsFaultOf t fault (program_fault_place fault)) (sym same) c.in-Err-accept.ensures))
 
-pub returns-in-Err-accept-clause-fault : goal.returns-in-Err-accept-clause-fault
-returns-in-Err-accept-clause-fault g c =
+pub returns-in-Err-accept-clause-calls : goal.returns-in-Err-accept-clause-calls
+returns-in-Err-accept-clause-calls g c =
     let before = g.H.Host.faults c.args.host.now in
     let after = g.H.Host.faults c.read_input.new.host in
-    subst (λ (e : InitFault). InitFaulted e before after) (sym c.program_fault.ensures) (program_counts before after c.in-Err-accept.fault (program_fault_place c.in-Err-accept.fault) c.in-Ok.ensures.calm)
+    record {
+      ready = c.read_input.ensures.calls.ready;
+      calm = tt;
+      fault = subst (λ (e : InitFault). InitFaulted e before after) (sym c.program_fault.ensures) (program_counts before after c.in-Err-accept.fault (program_fault_place c.in-Err-accept.fault) c.in-Ok.ensures.calls.calm);
+    }
 
 pub returns-in-Ok-create-clause-makes : goal.returns-in-Ok-create-clause-makes
 returns-in-Ok-create-clause-makes g c told manner asked =
@@ -73,8 +81,12 @@ returns-in-Ok-create-clause-makes g c told manner asked =
     tt (λ image is. subst (λ (t : List ℕ). IsNewSilo t image) (sym again) ((c.in-Ok-create.ensures.made told).made image is)) (c.in-Ok-create.ensures.made told).live
     (λ silo. made_no_fault tt _ _ _ (c.in-Ok-create.ensures.silo told silo).answer)
 
-pub returns-in-Ok-create-clause-calm : goal.returns-in-Ok-create-clause-calm
-returns-in-Ok-create-clause-calm g c = λ channel. c.in-Ok-create.ensures.calm channel ∙ c.in-Ok.ensures.calm channel
+pub returns-in-Ok-create-clause-calls : goal.returns-in-Ok-create-clause-calls
+returns-in-Ok-create-clause-calls g c = record {
+  ready = λ file was. c.create.ensures.calls.ready file (c.read_input.ensures.calls.ready file was);
+  calm = λ channel. c.in-Ok-create.ensures.calls.calm channel ∙ c.in-Ok.ensures.calls.calm channel;
+  fault = tt;
+}
 
 pub returns-clause-makes : goal.returns-clause-makes
 returns-clause-makes g c told manner asked =
@@ -99,15 +111,19 @@ returns-clause-makes g c told manner asked =
     (creation_refused (Unit {0}) manner asked old mid before after (c.read_input.ensures.disk told) (c.read_input.ensures.output told) (c.read_input.ensures.moments told)
     new (c.create.ensures.beside told) (subst (λ (t : List ℕ). ShowsSilos IsMagic mid.disk → CameThisFar IsMagic t mid new) (sym again) (λ shows. (c.create.ensures.moments told shows).moments)) (λ silo. (c.create.ensures.silo told silo).untouched) reads
     (λ file. g.met.H.Host.seen_may_stay c.args.host.now file told) (λ shows. (c.create.ensures.moments told shows).shows)
-    fault (subst (λ (f : Channel → ℕ). CreateFaulted fault f after) (same_counts before between c.in-Ok.ensures.calm) c.in-Err-create.ensures.fault)
+    fault (subst (λ (f : Channel → ℕ). CreateFaulted fault f after) (same_counts before between c.in-Ok.ensures.calls.calm) c.in-Err-create.ensures.calls.fault)
     (λ is. (c.in-Err-create.ensures.already is told).reads) (λ is. (c.in-Err-create.ensures.already is told).lasts)
     (λ silo. (c.in-Err-create.ensures.silo told silo).answer))
 
-pub returns-clause-fault : goal.returns-clause-fault
-returns-clause-fault g c =
+pub returns-clause-calls : goal.returns-clause-calls
+returns-clause-calls g c =
     let before = g.H.Host.faults c.args.host.now in
     let between = g.H.Host.faults c.read_input.new.host in
     let after = g.H.Host.faults c.create.new.host in
     let fault = c.in-Err-create.fault in
-    subst (λ (e : InitFault). InitFaulted e before after) (sym c.creation_fault.ensures)
-    (creation_counts before after fault (subst (λ (f : Channel → ℕ). CreateFaulted fault f after) (same_counts before between c.in-Ok.ensures.calm) c.in-Err-create.ensures.fault))
+    record {
+      ready = λ file was. c.create.ensures.calls.ready file (c.read_input.ensures.calls.ready file was);
+      calm = tt;
+      fault = subst (λ (e : InitFault). InitFaulted e before after) (sym c.creation_fault.ensures)
+          (creation_counts before after fault (subst (λ (f : Channel → ℕ). CreateFaulted fault f after) (same_counts before between c.in-Ok.ensures.calls.calm) c.in-Err-create.ensures.calls.fault));
+    }

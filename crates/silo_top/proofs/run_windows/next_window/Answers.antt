@@ -44,4 +44,4 @@ returns-in-Err-clause-comes g c = λ input asked given.
 pub returns-in-Err-clause-counts : goal.returns-in-Err-clause-counts
 returns-in-Err-clause-counts g c =
     subst (λ (e : Ending). HasFailedAs e (g.H.Host.faults c.args.host.now) (g.H.Host.faults c.next_window.new.host)) (sym c.window_status.ensures)
-    (failed_so (g.H.Host.faults c.args.host.now) (g.H.Host.faults c.next_window.new.host) c.in-Err.fault c.in-Err.ensures.counts)
+    (failed_so (g.H.Host.faults c.args.host.now) (g.H.Host.faults c.next_window.new.host) c.in-Err.fault c.in-Err.ensures.calls.fault)

@@ -25,7 +25,7 @@ returns-in-Err-open_silo-clause-upgrades g c told manner asked =
     let types : ProgramTree = program_tree c.in-Ok.read.1 in
     let small : length text ≤ 262144 = search rules in
     inr (inl (is_unopened manner asked f0 w0 w1 text types (c.in-Ok.ensures.read told) small c.in-Ok.ensures.program w2 (c.open_silo.ensures.only told) f2 (open_ending fault)
-    (c.in-Err-open_silo.ensures.refused told) (calm_before (open_ending fault) f0 f1 f2 c.in-Ok.ensures.calm (open_failed f1 f2 fault c.in-Err-open_silo.ensures.fault))))
+    (c.in-Err-open_silo.ensures.refused told) (calm_before (open_ending fault) f0 f1 f2 c.in-Ok.ensures.calm (open_failed f1 f2 fault c.in-Err-open_silo.ensures.calls.fault))))
 
 pub returns-in_default-clause-upgrades : goal.returns-in_default-clause-upgrades
 returns-in_default-clause-upgrades g c told manner asked =
@@ -38,7 +38,7 @@ returns-in_default-clause-upgrades g c told manner asked =
     let types : ProgramTree = program_tree c.in-Ok.read.1 in
     let small : length text ≤ 262144 = search rules in
     inr (inl (is_unopened manner asked f0 w0 w1 text types (c.in-Ok.ensures.read told) small c.in-Ok.ensures.program w2 (c.open_silo.ensures.only told) f2 Memory tt
-    (λ channel. c.in-Ok-open_silo.ensures.calm channel ∙ c.in-Ok.ensures.calm channel)))
+    (λ channel. c.in-Ok-open_silo.ensures.calls.calm channel ∙ c.in-Ok.ensures.calm channel)))
 
 pub returns-in-Err-compare-clause-upgrades : goal.returns-in-Err-compare-clause-upgrades
 returns-in-Err-compare-clause-upgrades g c told manner asked =
@@ -53,7 +53,7 @@ returns-in-Err-compare-clause-upgrades g c told manner asked =
     let small : length text ≤ 262144 = search rules in
     let other : compared (program_tree o.checked) types (length text) ≡ Some c.in-Err-compare.fault.at = search rules in
     inr (inr (inl (is_refused manner asked f0 w0 w1 text types (c.in-Ok.ensures.read told) small c.in-Ok.ensures.program w2 (c.open_silo.ensures.only told) o (c.in-Ok-open_silo.ensures.opened told)
-    f2 c.in-Err-compare.fault.at other (λ channel. c.in-Ok-open_silo.ensures.calm channel ∙ c.in-Ok.ensures.calm channel))))
+    f2 c.in-Err-compare.fault.at other (λ channel. c.in-Ok-open_silo.ensures.calls.calm channel ∙ c.in-Ok.ensures.calm channel))))
 
 pub returns-in-Ok-seal_upgrade-clause-upgrades : goal.returns-in-Ok-seal_upgrade-clause-upgrades
 returns-in-Ok-seal_upgrade-clause-upgrades g c told manner asked =
@@ -79,7 +79,7 @@ returns-in-Ok-seal_upgrade-clause-upgrades g c told manner asked =
     let has = c.in-Ok-seal_upgrade.ensures.done told in
     inr (inr (inr (is_upgraded manner asked f0 w0 w1 text types read small is w2 opens o left follows w3 f3 Done session next low run
     (done_so manner asked f0 w0 w1 text types read small is w2 opens o left follows w3 f3 Done session next low run has)
-    (λ channel. c.in-Ok-seal_upgrade.ensures.calm channel ∙ (c.in-Ok-open_silo.ensures.calm channel ∙ c.in-Ok.ensures.calm channel))
+    (λ channel. c.in-Ok-seal_upgrade.ensures.calm channel ∙ (c.in-Ok-open_silo.ensures.calls.calm channel ∙ c.in-Ok.ensures.calm channel))
     (upgrades manner asked f0 w0 w1 text types read small is w2 opens o left follows w3 f3 Done session next low run (c.seal_upgrade.ensures.logs told) (λ done. has)
     (λ file. g.met.H.Host.seen_may_stay c.args.host.now file told) (λ file. g.met.H.Host.seen_may_stay c.open_silo.new.host file told)))))
 
@@ -113,6 +113,6 @@ returns-clause-upgrades g c told manner asked =
           (nothing_so manner asked f0 w0 w1 text types read small is w2 opens o left follows w3 f3 (ending_for e) session next low run (ap g.H.Host.world want.1))
     ] in
     inr (inr (inr (is_upgraded manner asked f0 w0 w1 text types read small is w2 opens o left follows w3 f3 (ending_for e) session next low run ends_as
-    (calm_before (ending_for e) f0 f2 f3 (λ channel. c.in-Ok-open_silo.ensures.calm channel ∙ c.in-Ok.ensures.calm channel) c.in-Err-seal_upgrade.ensures.fault)
+    (calm_before (ending_for e) f0 f2 f3 (λ channel. c.in-Ok-open_silo.ensures.calls.calm channel ∙ c.in-Ok.ensures.calm channel) c.in-Err-seal_upgrade.ensures.fault)
     (upgrades manner asked f0 w0 w1 text types read small is w2 opens o left follows w3 f3 (ending_for e) session next low run (c.seal_upgrade.ensures.logs told) (λ done. absurd (never_done e done))
     (λ file. g.met.H.Host.seen_may_stay c.args.host.now file told) (λ file. g.met.H.Host.seen_may_stay c.open_silo.new.host file told)))))

@@ -44,7 +44,7 @@ returns-in-Err-Failed-clause-voted g c =
     let w2 = g.H.Host.world c.write_versions.new.host in
     let run : IsTrue g.H.Host.tells → RunsOnFile (Grain a.slot grain) (Tears (file_end a grain) size) 1 w0 w2 = λ told. run_at a.slot grain c.file_end-at.result (file_end a grain) size w0 w2 c.file_end-at.ensures (c.write_versions.ensures.run told) in
     votes_no g.H.Host.tells g.H.Host.world g.H.Host.faults batch grain vs a b c.args.host.now c.write_versions.new.host run r
-    (subst (λ (e : LogFault). WriteFaulted (Grain a.slot grain) e (g.H.Host.faults c.args.host.now) (g.H.Host.faults c.write_versions.new.host)) c.in-Err-Failed.field-0-is c.in-Err-Failed.ensures.fault)
+    (subst (λ (e : LogFault). WriteFaulted (Grain a.slot grain) e (g.H.Host.faults c.args.host.now) (g.H.Host.faults c.write_versions.new.host)) c.in-Err-Failed.field-0-is c.in-Err-Failed.ensures.calls.fault)
 
 pub returns-in-Err-Memory-clause-lacked : goal.returns-in-Err-Memory-clause-lacked
 returns-in-Err-Memory-clause-lacked g c =
@@ -60,7 +60,7 @@ returns-in-Err-Memory-clause-lacked g c =
     let w2 = g.H.Host.world c.write_versions.new.host in
     let run : IsTrue g.H.Host.tells → RunsOnFile (Grain a.slot grain) (Tears (file_end a grain) size) 1 w0 w2 = λ told. run_at a.slot grain c.file_end-at.result (file_end a grain) size w0 w2 c.file_end-at.ensures (c.write_versions.ensures.run told) in
     lacks_room g.H.Host.tells g.H.Host.world g.H.Host.faults batch grain vs a b c.args.host.now c.write_versions.new.host run r
-    (subst (λ (e : LogFault). WriteFaulted (Grain a.slot grain) e (g.H.Host.faults c.args.host.now) (g.H.Host.faults c.write_versions.new.host)) c.in-Err-Memory.field-0-is c.in-Err-Memory.ensures.fault)
+    (subst (λ (e : LogFault). WriteFaulted (Grain a.slot grain) e (g.H.Host.faults c.args.host.now) (g.H.Host.faults c.write_versions.new.host)) c.in-Err-Memory.field-0-is c.in-Err-Memory.ensures.calls.fault)
     (c.write_versions.ensures.memory (c.in-Err-Memory.is ∙ ap Err c.in-Err-Memory.field-0-is))
 
 pub returns-in-Ok-clause-voted : goal.returns-in-Ok-clause-voted
@@ -79,7 +79,7 @@ returns-in-Ok-clause-voted g c =
     let d = c.keep.new.self in
     let k : KeepsMore batch grain (file_end a grain) vs a d = keeps_more batch grain (file_end a grain) vs c.in-Ok.places a b d r
     (c.in-Ok.ensures.places ∙ ap (λ (n : ℕ). places_from n vs) c.file_end-at.ensures) (c.keep.ensures.kept ∙ (λ i. kept_of b ++ voted_at grain (c.as_slice-placed.ensures i) (c.as_slice-written.ensures i))) c.keep.ensures.slot c.keep.ensures.gate c.keep.ensures.session c.keep.ensures.doubt c.keep.ensures.batch c.keep.ensures.ends c.keep.ensures.places c.keep.ensures.programs in
-    votes_yes g.H.Host.tells g.H.Host.world g.H.Host.faults batch grain vs a d c.args.host.now c.write_versions.new.host run k c.in-Ok.ensures.calm
+    votes_yes g.H.Host.tells g.H.Host.world g.H.Host.faults batch grain vs a d c.args.host.now c.write_versions.new.host run k c.in-Ok.ensures.calls.calm
     (λ told. subst (λ (n : ℕ). WroteVersions (Grain a.slot grain) n vs w0 w2) c.file_end-at.ensures (c.in-Ok.ensures.wrote told)) c.in-Ok.ensures.fits (subst (λ (n : ℕ). n + size < 2 ^ 63) c.file_end-at.ensures c.in-Ok.ensures.bound)
 
 pub returns-in_err-make_room-clause-safe : goal.returns-in_err-make_room-clause-safe

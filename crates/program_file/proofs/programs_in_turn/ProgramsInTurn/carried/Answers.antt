@@ -1,4 +1,4 @@
-use Rattle.std.proofs.Common.{◌≡◌, ◌+◌, ◌-◌, ◌<◌, ℕ, List, length, map, take, drop, get_or, slice_get, Some, sym, ap, subst, ◌∙◌, arith}
+use Rattle.std.proofs.Common.{◌≡◌, ◌+◌, ◌-◌, ◌<◌, List, length, map, take, drop, get_or, slice_get, Some, sym, ap, subst, ◌∙◌, arith}
 use Rattle.std.specs.Prelude.{IfOk}
 use Rattle.std.proofs.lemmas.List.{length-map}
 use Rattle.base_types.specs.declared.calls.Value.{Value}
@@ -6,7 +6,7 @@ use Rattle.script_tree.specs.declared.programs.Program.{Program}
 use Rattle.script_tree.specs.Programs.{ProgramTree, program_tree}
 use Rattle.script_check.specs.Comparison.{GoOnInTurn}
 use Rattle.script_check.specs.Carrying.{carried_along}
-use Rattle.program_file.specs.Succession.{newest_program, carried_from}
+use Rattle.program_file.specs.Succession.{newest_program}
 use Rattle.program_file.specs.ProgramsInTurn.{programs_in, HasItsFields}
 use Rattle.program_file.proofs.ProgramNumbers.{program_at, behind, later_are, fields_low, fields_at, carried_is, carried_fits, if_ok}
 use Rattle.program_file.proofs.programs_in_turn.ProgramsInTurn.carried.Goals as goal
