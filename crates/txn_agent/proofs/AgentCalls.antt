@@ -158,9 +158,6 @@ module _ (may : CoreEvent → Bool) (types : ProgramTree) (s t : Sight) (c : Car
       due = λ alone. due-refuse types (run_seen (saw s l.rest)) c work k.trail _ k.at_work (paused-there types s c work counts (NeedGrain g mode) l.rest k alone) g mode k.ready.asks_for;
     }
 
-    pub refuse_acts : Tells may s (Refuse c.unit g mode) y t → Acts may types c.unit s t
-    refuse_acts l = inr (Refuse c.unit g mode, (y, refuse_puts l))
-
     pub refuse_done : Tells may s (Refuse c.unit g mode) y t → y ≡ reply.Done → (kids : ℕ) → AnswerSays may types c.unit kids s t came.Moved
     refuse_done l is kids = inl (Refuse c.unit g mode, subst (λ (x : CoreReply). Puts may types c.unit s (Refuse c.unit g mode) x t) is (refuse_puts l))
 
@@ -193,9 +190,6 @@ module _ (may : CoreEvent → Bool) (types : ProgramTree) (s t : Sight) (c : Car
       own = refl;
       due = λ alone. due-begin types (run_seen (saw s l.rest)) c work k.trail _ k.at_work (paused-there types s c work counts (NeedUnit call depth) l.rest k alone) call depth work.kids k.ready.asks_for;
     }
-
-    pub begin_acts : Tells may s (Begin (Child c.unit work.kids depth) call false) y t → Acts may types c.unit s t
-    begin_acts l = inr (Begin (Child c.unit work.kids depth) call false, (y, begin_puts l))
 
     pub begin_happened : Tells may s (Begin (Child c.unit work.kids depth) call false) y t → (child : UnitNo) (asked : Call) → y ≡ reply.Began child → asked ≡ call → AnswerSays may types c.unit work.kids s t (came.Began child asked depth)
     begin_happened l child asked is same = subst (λ (x : Call). Puts may types c.unit s (Begin (Child c.unit work.kids depth) x false) (reply.Began child) t) (sym same)
@@ -247,9 +241,6 @@ module _ (may : CoreEvent → Bool) (types : ProgramTree) (s t : Sight) (c : Car
       due = λ alone. due-finished types (run_seen (saw s l.rest)) c work k.trail _ k.at_work (paused-there types s c work counts (Done outcome) l.rest k alone) effect made;
     }
 
-    pub finish_acts : Tells may s (Finish c.unit effect) y t → Acts may types c.unit s t
-    finish_acts l = inr (Finish c.unit effect, (y, finish_puts l))
-
     pub finish_done : Tells may s (Finish c.unit effect) y t → y ≡ reply.Done → (kids : ℕ) → AnswerSays may types c.unit kids s t came.Moved
     finish_done l is kids = inl (Finish c.unit effect, subst (λ (x : CoreReply). Puts may types c.unit s (Finish c.unit effect) x t) is (finish_puts l))
 
@@ -283,9 +274,6 @@ module _ (may : CoreEvent → Bool) (types : ProgramTree) (s t : Sight) (c : Car
       own = refl;
       due = λ alone. due-ended types (run_seen (saw s l.rest)) c work k.trail _ k.at_work (paused-there types s c work counts (Done outcome) l.rest k alone) effect made;
     }
-
-    pub end_acts : Tells may s (EndPlain c.unit effect) y t → Acts may types c.unit s t
-    end_acts l = inr (EndPlain c.unit effect, (y, end_puts l))
 
     pub end_done : Tells may s (EndPlain c.unit effect) y t → y ≡ reply.Done → (kids : ℕ) → AnswerSays may types c.unit kids s t came.Moved
     end_done l is kids = inl (EndPlain c.unit effect, subst (λ (x : CoreReply). Puts may types c.unit s (EndPlain c.unit effect) x t) is (end_puts l))

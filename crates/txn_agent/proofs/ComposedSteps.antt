@@ -103,9 +103,6 @@ acts-counts may types u s t (inr (e, (r, p))) n = tells-counts may s t e r p.tol
 pub looks_self : (may : CoreEvent → Bool) (s : Sight) → Looks may s s
 looks_self may s = looks-none may s
 
-pub acts_looked : (may : CoreEvent → Bool) (types : ProgramTree) (u : UnitNo) (s t : Sight) → Looks may s t → Acts may types u s t
-acts_looked may types u s t l = inl l
-
 pub looks_counted : (may : CoreEvent → Bool) (s t : Sight) → Looks may s t → Counts s → Counts t
 looks_counted may s t l n = looks-counts may s t l n
 

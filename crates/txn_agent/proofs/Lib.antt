@@ -11,6 +11,7 @@ pub mod Effects
 pub mod AgentCalls
 pub mod ResumedScripts
 pub mod ComposedSteps
+pub mod WholeSteps
 pub mod ShownMoves
 pub mod LoneSteps
 pub mod MoveAnswers

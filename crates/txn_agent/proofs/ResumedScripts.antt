@@ -38,7 +38,7 @@ use Rattle.txn_agent.specs.declared.work.Work.{Work}
 use Rattle.txn_agent.specs.declared.agent.Advanced.TheVariants as came
 use Rattle.txn_agent.specs.MachineState.{IsAtWork, IsReady, IsResumed, found_by, source_of}
 use Rattle.txn_agent.specs.CoreLink.{IfOwn, IsPaused, IsOver, IsNew, KnowsPaused, KnowsWaiting}
-use Rattle.txn_agent.specs.AgentStep.{Acts, AnswerSays, Puts, all_but}
+use Rattle.txn_agent.specs.AgentStep.{AnswerSays, Puts, all_but}
 use Rattle.txn_agent.proofs.Trails.{answers-last, exclusive-last, first-answer, grains-last, missing-lock, missing-raise, next-own, raise-answer, reads-last, start-answer, unit-answer}
 use Rattle.txn_agent.proofs.FirstGrain.{first_grain-none, first_grain-some}
 use Rattle.txn_agent.proofs.OthersEvents.{paused-on, over-on, over-as}
@@ -215,9 +215,6 @@ module _ (may : CoreEvent → Bool) (types : ProgramTree) (s t : Sight) (c : Car
       lowest r o h e =
           let m = any-true (same_grain h) held (sym (o.locks h) ∙ e) in
           ap (λ (z : GrainId). is_before z g) (same_grain-true h m.0 m.2) ∙ (first_grain-some held g (sym first)).1 m.0 m.1
-
-  pub release_acts : Tells may s (Release c.unit g) y t → Acts may types c.unit s t
-  release_acts l = inr (Release c.unit g, (y, release_puts l))
 
   pub release_done : Tells may s (Release c.unit g) y t → y ≡ reply.Done → (kids : ℕ) → AnswerSays may types c.unit kids s t came.Moved
   release_done l is kids = inl (Release c.unit g, subst (λ (x : CoreReply). Puts may types c.unit s (Release c.unit g) x t) is (release_puts l))

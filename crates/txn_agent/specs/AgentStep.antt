@@ -1,5 +1,5 @@
 -- What one step of an agent does, and what each of its answers says.
-use Rattle.std.specs.Prelude.{◌≡◌, ◌==◌, ◌⊎◌, ℕ, List, length, filter, not, Bool, true, false, Some, None, ⊤}
+use Rattle.std.specs.Prelude.{◌≡◌, ◌==◌, ◌⊎◌, ℕ, List, length, filter, not, Bool, true, false, Some, None, Result, IfOk, ⊤}
 use Rattle.base_types.specs.declared.calls.Mode.{Mode}
 use Rattle.base_types.specs.declared.calls.Origin.TheVariants.{Child}
 use Rattle.core_model.specs.CoreState.{UnitNo, GrainId, Value, Call, same_grain, CoreState}
@@ -12,6 +12,7 @@ use Rattle.core_model.specs.Events.{applies, can}
 use Rattle.core_model.specs.LockAnswers.{IsGoing}
 use Rattle.core_model.specs.Tests.{ask_answer, is_free, is_over, outcome_of}
 use Rattle.core_model.specs.LegalRuns.{Run, ends}
+use Rattle.core_access.specs.FitAccess.{StaysFit}
 use Rattle.core_access.specs.Sights.{Sight, run_seen, saw, Looks, Tells, IfAlone}
 use Rattle.script_tree.specs.Programs.{ProgramTree}
 use Rattle.script_meaning.specs.Trails.{Given}
@@ -23,8 +24,10 @@ use Rattle.turn_rules.specs.Links.{IsAwaiting}
 use Rattle.worker_rules.specs.UnitOwnership.{leaves_unit}
 use Rattle.txn_agent.specs.declared.agent.Advanced.{Advanced}
 use Rattle.txn_agent.specs.declared.agent.Advanced.TheVariants.{Moved, Granted, Began, Waits, WaitsLoad, WaitsFor, Ended}
+use Rattle.txn_agent.specs.declared.work.Carried.{Carried}
 use Rattle.txn_agent.specs.declared.work.Doing.{Doing}
 use Rattle.txn_agent.specs.declared.work.Doing.TheVariants.{Asks, Awaits, Frees, Stopped}
+use Rattle.txn_agent.specs.CoreLink.{KnowsDoing}
 
 -- the event keeps the unit rule there, whatever lines and log the rule is told of
 abbrev pub IsDueFor : ProgramTree → Run → CoreEvent → Type 0
@@ -131,6 +134,16 @@ AnswerSays may types u kids s t (WaitsLoad grain) = WaitsForLoad may types u s g
 AnswerSays may types u kids s t (WaitsFor child) = WaitsForChild may types u s child t
 AnswerSays may types u kids s t Ended = Looks may s t × IfAlone (leaves_unit u) t (λ r. HasNoEventLeft (ends r) u)
 AnswerSays may types u kids s t Moved = ((e : CoreEvent) × Puts may types u s e reply.Done t) ⊎ (Misses may types u s t ⊎ Strays may types u s t)
+
+-- What a function that goes on by at most one event of the unit leaves: an access that may still be used, and what was put, where
+-- memory was wanting too; where it answers, what the answer says, and what is known of what the unit does from then on. The unit has
+-- begun so many units of its own before.
+pub record HasStepped {Access Aside E : Type 0} (is_fit : Access → Type 0) (aside : Access → Aside) (may_come : CoreEvent → Bool) (sight : Access → Sight)
+    (types : ProgramTree) (c : Carried) (kids : ℕ) (old new : Access) (result : Result (Doing × Advanced) E) : Type 0 where
+  pub kept : StaysFit (is_fit new) (aside old) (aside new)
+  pub acts : Acts may_come types c.unit (sight old) (sight new)
+  pub told : IfOk result (λ made. AnswerSays may_come types c.unit kids (sight old) (sight new) made.1)
+  pub doing : IfOk result (λ made. KnowsDoing types (sight new) c made.0)
 
 -- the answer says that an event of the unit was put
 abbrev pub is_move : Advanced → Bool

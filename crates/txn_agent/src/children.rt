@@ -4,7 +4,7 @@ ghost use Rattle.core_access.specs.Sights.{Counts, Looks};
 ghost use Rattle.script_tree.specs.Programs.{program_tree};
 ghost use Rattle.script_machine.specs.declared.machine.Pause.TheVariants.{NeedUnit as NeedsUnit};
 ghost use Rattle.txn_agent.specs.CoreLink.{KnowsPaused, KnowsWaiting, KnowsDoing};
-ghost use Rattle.txn_agent.specs.AgentStep.{Acts, AnswerSays, Hears, children_of};
+ghost use Rattle.txn_agent.specs.AgentStep.{HasStepped, Hears, children_of};
 
 use crate::agent::Advanced;
 use crate::looks::known_of;
@@ -56,11 +56,7 @@ pub fn begin_child<A: Access>(
     requires fit { A.is_fit access.old }
     requires counts { Counts (A.sight access.old) }
     requires paused { KnowsPaused (program_tree checked.now) (A.sight access.old) carried work (NeedsUnit call depth) }
-    ensures kept { StaysFit (A.is_fit access.new) (A.aside access.old) (A.aside access.new) }
-    ensures acts { Acts A.may_come (program_tree checked.now) carried.unit (A.sight access.old) (A.sight access.new) }
-    ensures told { IfOk result (λ made. AnswerSays A.may_come (program_tree checked.now) carried.unit work.kids (A.sight access.old)
-        (A.sight access.new) made.1) }
-    ensures doing { IfOk result (λ made. KnowsDoing (program_tree checked.now) (A.sight access.new) carried made.0) }
+    ensures stepped { HasStepped A.is_fit A.aside A.may_come A.sight (program_tree checked.now) carried work.kids access.old access.new result }
 {
     let index = work.kids;
     let begun = index + 1;

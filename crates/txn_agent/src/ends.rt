@@ -1,13 +1,12 @@
-ghost use Rattle.std.specs.Prelude.{◌≡◌, IfOk, not, true, false, Some};
+ghost use Rattle.std.specs.Prelude.{◌≡◌, not, true, false, Some};
 ghost use Rattle.core_model.specs.CoreState.{same_grain};
 ghost use Rattle.core_model.specs.Tests.{first_grain, first_of_two, is_before};
-ghost use Rattle.core_access.specs.FitAccess.{StaysFit};
 ghost use Rattle.core_access.specs.Sights.{Counts};
 ghost use Rattle.script_tree.specs.Programs.{program_tree};
 ghost use Rattle.script_machine.specs.declared.machine.Pause.TheVariants.{Done as IsAtEnd};
 ghost use Rattle.txn_agent.specs.declared.work.Doing.TheVariants.{Frees as FreesAll};
 ghost use Rattle.txn_agent.specs.CoreLink.{KnowsPaused, KnowsDoing};
-ghost use Rattle.txn_agent.specs.AgentStep.{Acts, AnswerSays, all_but};
+ghost use Rattle.txn_agent.specs.AgentStep.{HasStepped, all_but};
 
 use crate::agent::Advanced;
 use crate::puts::{put_end, put_finish, put_release};
@@ -30,11 +29,7 @@ pub fn finish<A: Access>(
     requires counts { Counts (A.sight access.old) }
     requires paused { KnowsPaused (program_tree checked.now) (A.sight access.old) carried work (IsAtEnd outcome) }
     requires kind { carried.plain ≡ false }
-    ensures kept { StaysFit (A.is_fit access.new) (A.aside access.old) (A.aside access.new) }
-    ensures acts { Acts A.may_come (program_tree checked.now) carried.unit (A.sight access.old) (A.sight access.new) }
-    ensures told { IfOk result (λ made. AnswerSays A.may_come (program_tree checked.now) carried.unit work.kids (A.sight access.old)
-        (A.sight access.new) made.1) }
-    ensures doing { IfOk result (λ made. KnowsDoing (program_tree checked.now) (A.sight access.new) carried made.0) }
+    ensures stepped { HasStepped A.is_fit A.aside A.may_come A.sight (program_tree checked.now) carried work.kids access.old access.new result }
 {
     drop(outcome);
     let (effect, held) = work.into_effect(alloc, carried)?;
@@ -58,11 +53,7 @@ pub fn end_plain<A: Access>(
     requires counts { Counts (A.sight access.old) }
     requires paused { KnowsPaused (program_tree checked.now) (A.sight access.old) carried work (IsAtEnd outcome) }
     requires kind { carried.plain ≡ true }
-    ensures kept { StaysFit (A.is_fit access.new) (A.aside access.old) (A.aside access.new) }
-    ensures acts { Acts A.may_come (program_tree checked.now) carried.unit (A.sight access.old) (A.sight access.new) }
-    ensures told { IfOk result (λ made. AnswerSays A.may_come (program_tree checked.now) carried.unit work.kids (A.sight access.old)
-        (A.sight access.new) made.1) }
-    ensures doing { IfOk result (λ made. KnowsDoing (program_tree checked.now) (A.sight access.new) carried made.0) }
+    ensures stepped { HasStepped A.is_fit A.aside A.may_come A.sight (program_tree checked.now) carried work.kids access.old access.new result }
 {
     drop(outcome);
     let (effect, held) = work.into_effect(alloc, carried)?;
@@ -132,10 +123,7 @@ pub fn release<A: Access>(
     requires fit { A.is_fit access.old }
     requires counts { Counts (A.sight access.old) }
     requires over { KnowsDoing (program_tree checked.now) (A.sight access.old) carried (FreesAll held) }
-    ensures kept { StaysFit (A.is_fit access.new) (A.aside access.old) (A.aside access.new) }
-    ensures acts { Acts A.may_come (program_tree checked.now) carried.unit (A.sight access.old) (A.sight access.new) }
-    ensures told { IfOk result (λ made. AnswerSays A.may_come (program_tree checked.now) carried.unit 0 (A.sight access.old) (A.sight access.new) made.1) }
-    ensures doing { IfOk result (λ made. KnowsDoing (program_tree checked.now) (A.sight access.new) carried made.0) }
+    ensures stepped { HasStepped A.is_fit A.aside A.may_come A.sight (program_tree checked.now) carried 0 access.old access.new result }
 {
     let Some(grain) = lowest(held.as_slice()) else {
         return Ok((Doing::Frees { held }, Advanced::Ended));

@@ -1,14 +1,13 @@
-ghost use Rattle.std.specs.Prelude.{◌≡◌, IfOk, false, true};
+ghost use Rattle.std.specs.Prelude.{◌≡◌, false, true};
 ghost use Rattle.core_model.specs.declared.questions.AskAnswer.TheVariants.{Free as IsFree};
 ghost use Rattle.core_model.specs.LegalRuns.{ends};
 ghost use Rattle.core_model.specs.Tests.{ask_answer};
-ghost use Rattle.core_access.specs.FitAccess.{StaysFit};
 ghost use Rattle.core_access.specs.Sights.{run_seen, Counts};
 ghost use Rattle.script_tree.specs.Programs.{program_tree};
 ghost use Rattle.script_machine.specs.Machines.{asks_raise, rest};
 ghost use Rattle.script_machine.specs.declared.machine.Pause.TheVariants.{NeedGrain};
-ghost use Rattle.txn_agent.specs.CoreLink.{KnowsPaused, KnowsDoing};
-ghost use Rattle.txn_agent.specs.AgentStep.{Acts, AnswerSays};
+ghost use Rattle.txn_agent.specs.CoreLink.{KnowsPaused};
+ghost use Rattle.txn_agent.specs.AgentStep.{HasStepped};
 
 use crate::agent::Advanced;
 use crate::puts::put_grant;
@@ -34,11 +33,7 @@ pub fn grant_first<A: Access>(
     requires paused { KnowsPaused (program_tree checked.now) (A.sight access.old) carried work (NeedGrain grain mode) }
     requires first { asks_raise (rest (program_tree checked.now) work.machine) ≡ false }
     requires free { ask_answer (ends (run_seen (A.sight access.old))) carried.unit grain mode ≡ IsFree }
-    ensures kept { StaysFit (A.is_fit access.new) (A.aside access.old) (A.aside access.new) }
-    ensures acts { Acts A.may_come (program_tree checked.now) carried.unit (A.sight access.old) (A.sight access.new) }
-    ensures told { IfOk result (λ made. AnswerSays A.may_come (program_tree checked.now) carried.unit work.kids (A.sight access.old)
-        (A.sight access.new) made.1) }
-    ensures doing { IfOk result (λ made. KnowsDoing (program_tree checked.now) (A.sight access.new) carried made.0) }
+    ensures stepped { HasStepped A.is_fit A.aside A.may_come A.sight (program_tree checked.now) carried work.kids access.old access.new result }
 {
     let granted = put_grant(access, carried.unit, grain, mode)?;
     match granted {
@@ -72,11 +67,7 @@ pub fn grant_again<A: Access>(
     requires paused { KnowsPaused (program_tree checked.now) (A.sight access.old) carried work (NeedGrain grain mode) }
     requires again { asks_raise (rest (program_tree checked.now) work.machine) ≡ true }
     requires free { ask_answer (ends (run_seen (A.sight access.old))) carried.unit grain mode ≡ IsFree }
-    ensures kept { StaysFit (A.is_fit access.new) (A.aside access.old) (A.aside access.new) }
-    ensures acts { Acts A.may_come (program_tree checked.now) carried.unit (A.sight access.old) (A.sight access.new) }
-    ensures told { IfOk result (λ made. AnswerSays A.may_come (program_tree checked.now) carried.unit work.kids (A.sight access.old)
-        (A.sight access.new) made.1) }
-    ensures doing { IfOk result (λ made. KnowsDoing (program_tree checked.now) (A.sight access.new) carried made.0) }
+    ensures stepped { HasStepped A.is_fit A.aside A.may_come A.sight (program_tree checked.now) carried work.kids access.old access.new result }
 {
     let granted = put_grant(access, carried.unit, grain, mode)?;
     match granted {

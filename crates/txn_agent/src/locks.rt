@@ -1,13 +1,12 @@
-ghost use Rattle.std.specs.Prelude.{◌≡◌, IfOk, is_some, true};
+ghost use Rattle.std.specs.Prelude.{◌≡◌, is_some, true};
 ghost use Rattle.core_model.specs.Changes.{refusal};
 ghost use Rattle.core_model.specs.LegalRuns.{ends};
 ghost use Rattle.core_model.specs.Tests.{ask_answer};
-ghost use Rattle.core_access.specs.FitAccess.{StaysFit};
 ghost use Rattle.core_access.specs.Sights.{run_seen, Counts};
 ghost use Rattle.script_tree.specs.Programs.{program_tree};
 ghost use Rattle.script_machine.specs.declared.machine.Pause.TheVariants.{NeedGrain};
-ghost use Rattle.txn_agent.specs.CoreLink.{KnowsPaused, KnowsDoing};
-ghost use Rattle.txn_agent.specs.AgentStep.{Acts, AnswerSays};
+ghost use Rattle.txn_agent.specs.CoreLink.{KnowsPaused};
+ghost use Rattle.txn_agent.specs.AgentStep.{HasStepped};
 
 use crate::agent::Advanced;
 use crate::grants::{grant_again, grant_first};
@@ -34,11 +33,7 @@ fn refuse<A: Access>(
     requires counts { Counts (A.sight access.old) }
     requires paused { KnowsPaused (program_tree checked.now) (A.sight access.old) carried work (NeedGrain grain mode) }
     requires barred { is_some (refusal grain (ask_answer (ends (run_seen (A.sight access.old))) carried.unit grain mode)) ≡ true }
-    ensures kept { StaysFit (A.is_fit access.new) (A.aside access.old) (A.aside access.new) }
-    ensures acts { Acts A.may_come (program_tree checked.now) carried.unit (A.sight access.old) (A.sight access.new) }
-    ensures told { IfOk result (λ made. AnswerSays A.may_come (program_tree checked.now) carried.unit work.kids (A.sight access.old)
-        (A.sight access.new) made.1) }
-    ensures doing { IfOk result (λ made. KnowsDoing (program_tree checked.now) (A.sight access.new) carried made.0) }
+    ensures stepped { HasStepped A.is_fit A.aside A.may_come A.sight (program_tree checked.now) carried work.kids access.old access.new result }
 {
     let done = put_refuse(access, carried.unit, grain, mode)?;
     if done {
@@ -66,11 +61,7 @@ pub fn take_grain<A: Access>(
     requires fit { A.is_fit access.old }
     requires counts { Counts (A.sight access.old) }
     requires paused { KnowsPaused (program_tree checked.now) (A.sight access.old) carried work (NeedGrain grain mode) }
-    ensures kept { StaysFit (A.is_fit access.new) (A.aside access.old) (A.aside access.new) }
-    ensures acts { Acts A.may_come (program_tree checked.now) carried.unit (A.sight access.old) (A.sight access.new) }
-    ensures told { IfOk result (λ made. AnswerSays A.may_come (program_tree checked.now) carried.unit work.kids (A.sight access.old)
-        (A.sight access.new) made.1) }
-    ensures doing { IfOk result (λ made. KnowsDoing (program_tree checked.now) (A.sight access.new) carried made.0) }
+    ensures stepped { HasStepped A.is_fit A.aside A.may_come A.sight (program_tree checked.now) carried work.kids access.old access.new result }
 {
     match ask_for(access, carried.unit, grain, mode) {
         AskAnswer::Free => {

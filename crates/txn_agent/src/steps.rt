@@ -4,7 +4,7 @@ ghost use Rattle.core_access.specs.Sights.{Counts, Looks};
 ghost use Rattle.script_tree.specs.Programs.{ProgramTree, program_tree};
 ghost use Rattle.promise_spec.specs.TurnRule.{is_wait};
 ghost use Rattle.txn_agent.specs.CoreLink.{IfOwn, KnowsPaused, KnowsWaiting, KnowsDoing};
-ghost use Rattle.txn_agent.specs.AgentStep.{Acts, AnswerSays, Hears, children_of};
+ghost use Rattle.txn_agent.specs.AgentStep.{HasStepped, Hears, children_of};
 ghost use Rattle.txn_agent.specs.ShownMoves.{ShowsMove};
 
 use crate::agent::Advanced;
@@ -57,11 +57,7 @@ fn do_asked<A: Access>(
     requires fit { A.is_fit access.old }
     requires counts { Counts (A.sight access.old) }
     requires paused { KnowsPaused (program_tree checked.now) (A.sight access.old) carried work pause }
-    ensures kept { StaysFit (A.is_fit access.new) (A.aside access.old) (A.aside access.new) }
-    ensures acts { Acts A.may_come (program_tree checked.now) carried.unit (A.sight access.old) (A.sight access.new) }
-    ensures told { IfOk result (λ made. AnswerSays A.may_come (program_tree checked.now) carried.unit work.kids (A.sight access.old)
-        (A.sight access.new) made.1) }
-    ensures doing { IfOk result (λ made. KnowsDoing (program_tree checked.now) (A.sight access.new) carried made.0) }
+    ensures stepped { HasStepped A.is_fit A.aside A.may_come A.sight (program_tree checked.now) carried work.kids access.old access.new result }
 {
     match pause {
         Pause::NeedGrain { grain, mode } => take_grain(
@@ -90,11 +86,7 @@ fn await_child<A: Access>(
     requires fit { A.is_fit access.old }
     requires counts { Counts (A.sight access.old) }
     requires waits { KnowsWaiting (program_tree checked.now) (A.sight access.old) carried work child }
-    ensures kept { StaysFit (A.is_fit access.new) (A.aside access.old) (A.aside access.new) }
-    ensures acts { Acts A.may_come (program_tree checked.now) carried.unit (A.sight access.old) (A.sight access.new) }
-    ensures told { IfOk result (λ made. AnswerSays A.may_come (program_tree checked.now) carried.unit work.kids (A.sight access.old)
-        (A.sight access.new) made.1) }
-    ensures doing { IfOk result (λ made. KnowsDoing (program_tree checked.now) (A.sight access.new) carried made.0) }
+    ensures stepped { HasStepped A.is_fit A.aside A.may_come A.sight (program_tree checked.now) carried work.kids access.old access.new result }
 {
     match known_of(access, child)? {
         KnownOutcome::Undecided => Ok((
@@ -119,11 +111,7 @@ pub fn step<A: Access>(
     requires fit { A.is_fit access.old }
     requires counts { Counts (A.sight access.old) }
     requires doing { KnowsDoing (program_tree checked.now) (A.sight access.old) carried doing }
-    ensures kept { StaysFit (A.is_fit access.new) (A.aside access.old) (A.aside access.new) }
-    ensures acts { Acts A.may_come (program_tree checked.now) carried.unit (A.sight access.old) (A.sight access.new) }
-    ensures told { IfOk result (λ made. AnswerSays A.may_come (program_tree checked.now) carried.unit (children_of doing) (A.sight access.old)
-        (A.sight access.new) made.1) }
-    ensures doing { IfOk result (λ made. KnowsDoing (program_tree checked.now) (A.sight access.new) carried made.0) }
+    ensures stepped { HasStepped A.is_fit A.aside A.may_come A.sight (program_tree checked.now) carried (children_of doing) access.old access.new result }
 {
     match doing {
         Doing::Asks { work, pause } => do_asked(alloc, checked, access, carried, work, pause),

@@ -1,36 +1,36 @@
-use Rattle.std.proofs.Common.{◌∙◌, sym, ap}
+use Rattle.std.proofs.Common.{◌∙◌, ap, refl, sym}
 use Rattle.script_tree.specs.Programs.{program_tree}
 use Rattle.std.specs.Prelude.{is_some}
 use Rattle.core_model.specs.declared.questions.AskAnswer.{AskAnswer}
 use Rattle.core_model.specs.Changes.{refusal}
-use Rattle.script_machine.specs.declared.machine.Pause.TheVariants.{NeedGrain}
 use Rattle.txn_agent.proofs.AgentCalls.{paused-looks}
-use Rattle.txn_agent.proofs.ComposedSteps.{absent_happened, acts_on, held_happened, inactive_happened, looks_counted, told_on, waits_happened}
+use Rattle.txn_agent.proofs.ComposedSteps.{absent_happened, held_happened, inactive_happened, looks_counted, waits_happened}
+use Rattle.txn_agent.proofs.WholeSteps.{stepped_ok, stepped_on}
 use Rattle.txn_agent.proofs.locks.take_grain.Goals as goal
 
 pub grant_again-requires-clause-counts : goal.grant_again-requires-clause-counts
-grant_again-requires-clause-counts g c = looks_counted g.A.Access.may_come (g.A.Access.sight c.args.access.now) (g.A.Access.sight c.ask_for.new.access) c.ask_for.ensures.looked c.requires.counts
+grant_again-requires-clause-counts g c = looks_counted _ _ _ c.ask_for.ensures.looked c.requires.counts
 
 pub grant_again-requires-clause-paused : goal.grant_again-requires-clause-paused
-grant_again-requires-clause-paused g c = paused-looks (program_tree c.args.checked.now) (g.A.Access.sight c.args.access.now) c.args.carried c.args.work c.requires.counts g.A.Access.may_come (g.A.Access.sight c.ask_for.new.access) (NeedGrain c.args.grain c.args.mode) c.ask_for.ensures.looked c.requires.paused
+grant_again-requires-clause-paused g c = paused-looks _ _ _ _ c.requires.counts _ _ _ c.ask_for.ensures.looked c.requires.paused
 
 pub grant_first-requires-clause-counts : goal.grant_first-requires-clause-counts
-grant_first-requires-clause-counts g c = looks_counted g.A.Access.may_come (g.A.Access.sight c.args.access.now) (g.A.Access.sight c.ask_for.new.access) c.ask_for.ensures.looked c.requires.counts
+grant_first-requires-clause-counts g c = looks_counted _ _ _ c.ask_for.ensures.looked c.requires.counts
 
 pub grant_first-requires-clause-paused : goal.grant_first-requires-clause-paused
-grant_first-requires-clause-paused g c = paused-looks (program_tree c.args.checked.now) (g.A.Access.sight c.args.access.now) c.args.carried c.args.work c.requires.counts g.A.Access.may_come (g.A.Access.sight c.ask_for.new.access) (NeedGrain c.args.grain c.args.mode) c.ask_for.ensures.looked c.requires.paused
+grant_first-requires-clause-paused g c = paused-looks _ _ _ _ c.requires.counts _ _ _ c.ask_for.ensures.looked c.requires.paused
 
 pub refuse-requires-clause-counts : goal.refuse-requires-clause-counts
-refuse-requires-clause-counts g c = looks_counted g.A.Access.may_come (g.A.Access.sight c.args.access.now) (g.A.Access.sight c.ask_for.new.access) c.ask_for.ensures.looked c.requires.counts
+refuse-requires-clause-counts g c = looks_counted _ _ _ c.ask_for.ensures.looked c.requires.counts
 
 pub refuse-requires-clause-paused : goal.refuse-requires-clause-paused
-refuse-requires-clause-paused g c = paused-looks (program_tree c.args.checked.now) (g.A.Access.sight c.args.access.now) c.args.carried c.args.work c.requires.counts g.A.Access.may_come (g.A.Access.sight c.ask_for.new.access) (NeedGrain c.args.grain c.args.mode) c.ask_for.ensures.looked c.requires.paused
+refuse-requires-clause-paused g c = paused-looks _ _ _ _ c.requires.counts _ _ _ c.ask_for.ensures.looked c.requires.paused
 
 pub refuse-requires-in-Doomed-clause-counts : goal.refuse-requires-in-Doomed-clause-counts
-refuse-requires-in-Doomed-clause-counts g c = looks_counted g.A.Access.may_come (g.A.Access.sight c.args.access.now) (g.A.Access.sight c.ask_for.new.access) c.ask_for.ensures.looked c.requires.counts
+refuse-requires-in-Doomed-clause-counts g c = looks_counted _ _ _ c.ask_for.ensures.looked c.requires.counts
 
 pub refuse-requires-in-Doomed-clause-paused : goal.refuse-requires-in-Doomed-clause-paused
-refuse-requires-in-Doomed-clause-paused g c = paused-looks (program_tree c.args.checked.now) (g.A.Access.sight c.args.access.now) c.args.carried c.args.work c.requires.counts g.A.Access.may_come (g.A.Access.sight c.ask_for.new.access) (NeedGrain c.args.grain c.args.mode) c.ask_for.ensures.looked c.requires.paused
+refuse-requires-in-Doomed-clause-paused g c = paused-looks _ _ _ _ c.requires.counts _ _ _ c.ask_for.ensures.looked c.requires.paused
 
 pub grant_again-requires-clause-again : goal.grant_again-requires-clause-again
 grant_again-requires-clause-again g c = sym (c.is_raise.ensures (program_tree c.args.checked.now)) ∙ c.if-is_raise.true
@@ -50,50 +50,42 @@ refuse-requires-clause-barred g c = ap (λ (a : AskAnswer). is_some (refusal c.a
 pub refuse-requires-in-Doomed-clause-barred : goal.refuse-requires-in-Doomed-clause-barred
 refuse-requires-in-Doomed-clause-barred g c = ap (λ (a : AskAnswer). is_some (refusal c.args.grain a)) (sym c.ask_for.ensures.answer ∙ c.in-Doomed.is)
 
-pub returns-then-is_raise-clause-acts : goal.returns-then-is_raise-clause-acts
-returns-then-is_raise-clause-acts g c = acts_on g.A.Access.may_come (program_tree c.args.checked.now) c.args.carried.unit (g.A.Access.sight c.args.access.now) (g.A.Access.sight c.ask_for.new.access) (g.A.Access.sight c.grant_again.new.access) c.ask_for.ensures.looked c.grant_again.ensures.acts
+pub returns-then-is_raise : goal.returns-then-is_raise
+returns-then-is_raise g c = record { stepped = stepped_on c.args.work.kids c.args.work.kids c.args.access.now c.ask_for.new.access c.grant_again.new.access c.grant_again.result refl c.ask_for.ensures.kept c.ask_for.ensures.looked c.grant_again.ensures.stepped }
 
-pub returns-then-is_raise-clause-told : goal.returns-then-is_raise-clause-told
-returns-then-is_raise-clause-told g c = told_on g.A.Access.may_come (program_tree c.args.checked.now) c.args.carried.unit (g.A.Access.sight c.args.access.now) (g.A.Access.sight c.ask_for.new.access) (g.A.Access.sight c.grant_again.new.access) c.ask_for.ensures.looked c.args.work.kids c.grant_again.result c.grant_again.ensures.told
+pub returns-else-is_raise : goal.returns-else-is_raise
+returns-else-is_raise g c = record { stepped = stepped_on c.args.work.kids c.args.work.kids c.args.access.now c.ask_for.new.access c.grant_first.new.access c.grant_first.result refl c.ask_for.ensures.kept c.ask_for.ensures.looked c.grant_first.ensures.stepped }
 
-pub returns-else-is_raise-clause-acts : goal.returns-else-is_raise-clause-acts
-returns-else-is_raise-clause-acts g c = acts_on g.A.Access.may_come (program_tree c.args.checked.now) c.args.carried.unit (g.A.Access.sight c.args.access.now) (g.A.Access.sight c.ask_for.new.access) (g.A.Access.sight c.grant_first.new.access) c.ask_for.ensures.looked c.grant_first.ensures.acts
+pub returns-in-MustDie : goal.returns-in-MustDie
+returns-in-MustDie g c = record { stepped = stepped_on c.args.work.kids c.args.work.kids c.args.access.now c.ask_for.new.access c.refuse.new.access c.refuse.result refl c.ask_for.ensures.kept c.ask_for.ensures.looked c.refuse.ensures.stepped }
 
-pub returns-else-is_raise-clause-told : goal.returns-else-is_raise-clause-told
-returns-else-is_raise-clause-told g c = told_on g.A.Access.may_come (program_tree c.args.checked.now) c.args.carried.unit (g.A.Access.sight c.args.access.now) (g.A.Access.sight c.ask_for.new.access) (g.A.Access.sight c.grant_first.new.access) c.ask_for.ensures.looked c.args.work.kids c.grant_first.result c.grant_first.ensures.told
+pub returns-in-Doomed : goal.returns-in-Doomed
+returns-in-Doomed g c = record { stepped = stepped_on c.args.work.kids c.args.work.kids c.args.access.now c.ask_for.new.access c.refuse-in-Doomed.new.access c.refuse-in-Doomed.result refl c.ask_for.ensures.kept c.ask_for.ensures.looked c.refuse-in-Doomed.ensures.stepped }
 
-pub returns-in-MustDie-clause-acts : goal.returns-in-MustDie-clause-acts
-returns-in-MustDie-clause-acts g c = acts_on g.A.Access.may_come (program_tree c.args.checked.now) c.args.carried.unit (g.A.Access.sight c.args.access.now) (g.A.Access.sight c.ask_for.new.access) (g.A.Access.sight c.refuse.new.access) c.ask_for.ensures.looked c.refuse.ensures.acts
+pub returns-in-MustWait : goal.returns-in-MustWait
+returns-in-MustWait g c = record {
+  stepped = stepped_ok c.ask_for.ensures.kept
+      (waits_happened _ _ _ _ _ _ _ _ c.args.work.kids c.requires.counts c.ask_for.ensures.looked c.requires.paused c.in-MustWait.holder _ c.in-MustWait.is c.ask_for.ensures.answer)
+      (paused-looks _ _ _ _ c.requires.counts _ _ _ c.ask_for.ensures.looked c.requires.paused);
+}
 
-pub returns-in-MustDie-clause-told : goal.returns-in-MustDie-clause-told
-returns-in-MustDie-clause-told g c = told_on g.A.Access.may_come (program_tree c.args.checked.now) c.args.carried.unit (g.A.Access.sight c.args.access.now) (g.A.Access.sight c.ask_for.new.access) (g.A.Access.sight c.refuse.new.access) c.ask_for.ensures.looked c.args.work.kids c.refuse.result c.refuse.ensures.told
+pub returns-in-NotActive : goal.returns-in-NotActive
+returns-in-NotActive g c = record {
+  stepped = stepped_ok c.ask_for.ensures.kept
+      (inactive_happened _ _ _ _ _ _ _ _ c.args.work.kids c.requires.counts c.ask_for.ensures.looked c.requires.paused _ c.in-NotActive.is c.ask_for.ensures.answer)
+      (paused-looks _ _ _ _ c.requires.counts _ _ _ c.ask_for.ensures.looked c.requires.paused);
+}
 
-pub returns-in-Doomed-clause-acts : goal.returns-in-Doomed-clause-acts
-returns-in-Doomed-clause-acts g c = acts_on g.A.Access.may_come (program_tree c.args.checked.now) c.args.carried.unit (g.A.Access.sight c.args.access.now) (g.A.Access.sight c.ask_for.new.access) (g.A.Access.sight c.refuse-in-Doomed.new.access) c.ask_for.ensures.looked c.refuse-in-Doomed.ensures.acts
+pub returns-in-Held : goal.returns-in-Held
+returns-in-Held g c = record {
+  stepped = stepped_ok c.ask_for.ensures.kept
+      (held_happened _ _ _ _ _ _ _ _ c.args.work.kids c.requires.counts c.ask_for.ensures.looked c.requires.paused _ c.in-Held.is c.ask_for.ensures.answer)
+      (paused-looks _ _ _ _ c.requires.counts _ _ _ c.ask_for.ensures.looked c.requires.paused);
+}
 
-pub returns-in-Doomed-clause-told : goal.returns-in-Doomed-clause-told
-returns-in-Doomed-clause-told g c = told_on g.A.Access.may_come (program_tree c.args.checked.now) c.args.carried.unit (g.A.Access.sight c.args.access.now) (g.A.Access.sight c.ask_for.new.access) (g.A.Access.sight c.refuse-in-Doomed.new.access) c.ask_for.ensures.looked c.args.work.kids c.refuse-in-Doomed.result c.refuse-in-Doomed.ensures.told
-
-pub returns-in-MustWait-clause-told : goal.returns-in-MustWait-clause-told
-returns-in-MustWait-clause-told g c = waits_happened g.A.Access.may_come (program_tree c.args.checked.now) (g.A.Access.sight c.args.access.now) (g.A.Access.sight c.ask_for.new.access) c.args.carried c.args.work c.args.grain c.args.mode c.args.work.kids c.requires.counts c.ask_for.ensures.looked c.requires.paused c.in-MustWait.holder _ c.in-MustWait.is c.ask_for.ensures.answer
-
-pub returns-in-NotActive-clause-told : goal.returns-in-NotActive-clause-told
-returns-in-NotActive-clause-told g c = inactive_happened g.A.Access.may_come (program_tree c.args.checked.now) (g.A.Access.sight c.args.access.now) (g.A.Access.sight c.ask_for.new.access) c.args.carried c.args.work c.args.grain c.args.mode c.args.work.kids c.requires.counts c.ask_for.ensures.looked c.requires.paused _ c.in-NotActive.is c.ask_for.ensures.answer
-
-pub returns-in-Held-clause-told : goal.returns-in-Held-clause-told
-returns-in-Held-clause-told g c = held_happened g.A.Access.may_come (program_tree c.args.checked.now) (g.A.Access.sight c.args.access.now) (g.A.Access.sight c.ask_for.new.access) c.args.carried c.args.work c.args.grain c.args.mode c.args.work.kids c.requires.counts c.ask_for.ensures.looked c.requires.paused _ c.in-Held.is c.ask_for.ensures.answer
-
-pub returns-in-Absent-clause-told : goal.returns-in-Absent-clause-told
-returns-in-Absent-clause-told g c = absent_happened g.A.Access.may_come (program_tree c.args.checked.now) (g.A.Access.sight c.args.access.now) (g.A.Access.sight c.ask_for.new.access) c.args.carried c.args.work c.args.grain c.args.mode c.args.work.kids c.requires.counts c.ask_for.ensures.looked c.requires.paused _ c.in-Absent.is c.ask_for.ensures.answer
-
-pub returns-in-MustWait-clause-doing : goal.returns-in-MustWait-clause-doing
-returns-in-MustWait-clause-doing g c = paused-looks (program_tree c.args.checked.now) (g.A.Access.sight c.args.access.now) c.args.carried c.args.work c.requires.counts g.A.Access.may_come (g.A.Access.sight c.ask_for.new.access) (NeedGrain c.args.grain c.args.mode) c.ask_for.ensures.looked c.requires.paused
-
-pub returns-in-NotActive-clause-doing : goal.returns-in-NotActive-clause-doing
-returns-in-NotActive-clause-doing g c = paused-looks (program_tree c.args.checked.now) (g.A.Access.sight c.args.access.now) c.args.carried c.args.work c.requires.counts g.A.Access.may_come (g.A.Access.sight c.ask_for.new.access) (NeedGrain c.args.grain c.args.mode) c.ask_for.ensures.looked c.requires.paused
-
-pub returns-in-Held-clause-doing : goal.returns-in-Held-clause-doing
-returns-in-Held-clause-doing g c = paused-looks (program_tree c.args.checked.now) (g.A.Access.sight c.args.access.now) c.args.carried c.args.work c.requires.counts g.A.Access.may_come (g.A.Access.sight c.ask_for.new.access) (NeedGrain c.args.grain c.args.mode) c.ask_for.ensures.looked c.requires.paused
-
-pub returns-in-Absent-clause-doing : goal.returns-in-Absent-clause-doing
-returns-in-Absent-clause-doing g c = paused-looks (program_tree c.args.checked.now) (g.A.Access.sight c.args.access.now) c.args.carried c.args.work c.requires.counts g.A.Access.may_come (g.A.Access.sight c.ask_for.new.access) (NeedGrain c.args.grain c.args.mode) c.ask_for.ensures.looked c.requires.paused
+pub returns-in-Absent : goal.returns-in-Absent
+returns-in-Absent g c = record {
+  stepped = stepped_ok c.ask_for.ensures.kept
+      (absent_happened _ _ _ _ _ _ _ _ c.args.work.kids c.requires.counts c.ask_for.ensures.looked c.requires.paused _ c.in-Absent.is c.ask_for.ensures.answer)
+      (paused-looks _ _ _ _ c.requires.counts _ _ _ c.ask_for.ensures.looked c.requires.paused);
+}
