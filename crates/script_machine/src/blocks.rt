@@ -45,7 +45,10 @@ impl Run {
     {
         match self.value(alloc, checked, test)? {
             Value::Int(number) => Ok(is_true(number)),
-            Value::Text(_) => Err(Stop::Fault(fault_of(alloc, Reason::Kind)?)),
+            Value::Text(text) => {
+                drop(text);
+                Err(Stop::Fault(fault_of(alloc, Reason::Kind)?))
+            }
         }
     }
 

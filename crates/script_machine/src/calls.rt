@@ -28,7 +28,10 @@ fn key_of(alloc: Global, place: Value) -> Result<u32, Stop>
     ensures { GivesKey result place }
 {
     match place {
-        Value::Text(_) => Err(Stop::Fault(fault_of(alloc, Reason::Kind)?)),
+        Value::Text(text) => {
+            drop(text);
+            Err(Stop::Fault(fault_of(alloc, Reason::Kind)?))
+        }
         Value::Int(number) => match u32::try_from(number) {
             Ok(key) => Ok(key),
             Err(_) => Err(Stop::Fault(fault_of(alloc, Reason::Key)?)),
@@ -89,9 +92,11 @@ impl Run {
         ensures less { IfOk result (Shrinks (size self.old + 4) self.new) }
     {
         let Some(kind) = type_named(checked, &call.target.text) else {
+            drop(args);
             return Err(Stop::Fault(fault_of(alloc, Reason::Unknown)?));
         };
         let Some(callee) = callee_named(checked, GrainId { kind, key }, &call.method.text) else {
+            drop(args);
             return Err(Stop::Fault(fault_of(alloc, Reason::Unknown)?));
         };
         self.enter(alloc, checked, &callee, args)
@@ -112,7 +117,10 @@ impl Run {
         ensures less { IfOk result (Shrinks (size self.old + 4) self.new) }
     {
         match enter(callee.method.option, self.top.post.context) {
-            Entered::Refused(why) => Err(Stop::Fault(fault_of(alloc, refusal(why))?)),
+            Entered::Refused(why) => {
+                drop(args);
+                Err(Stop::Fault(fault_of(alloc, refusal(why))?))
+            }
             Entered::NewUnit => {
                 self.goes_deeper(alloc)?;
                 self.ask(alloc, callee, args)
@@ -164,12 +172,14 @@ impl Run {
             context,
             depth: self.top.post.depth + 1,
         };
-        let frame = Frame::new(
+        let made = Frame::new(
             alloc,
             post,
             callee.method.params.as_slice(),
             args.as_slice(),
-        )?;
+        );
+        drop(args);
+        let frame = made?;
         let caller = mem::replace(&mut self.top, frame);
         self.below.push(caller)?;
         Ok(())
@@ -184,6 +194,7 @@ impl Run {
         ensures less { IfOk result (Shrinks (size self.old + 4) self.new) }
     {
         if !self.has.ask_unit() {
+            drop(args);
             return Err(Stop::Fault(fault_of(alloc, Reason::Units)?));
         }
         let call = Call {
@@ -191,10 +202,8 @@ impl Run {
             method: callee.number,
             args,
         };
-        self.wait = Wait::Child {
-            call,
-            depth: self.top.post.depth + 1,
-        };
+        let depth = self.top.post.depth + 1;
+        drop(mem::replace(&mut self.wait, Wait::Child { call, depth }));
         Ok(Flow::Paused)
     }
 }

@@ -11,6 +11,7 @@ use base_types::{GrainId, Mode};
 use script_tree::MethodKind;
 use script_values::{Reason, Stop, fault_of};
 use std::alloc::Global;
+use std::mem;
 
 impl Run {
     /// Asks for the lock that a joined frame of this kind needs, unless it is held already.
@@ -39,14 +40,14 @@ impl Run {
                 if !self.has.has_room() {
                     return Err(Stop::Fault(fault_of(alloc, Reason::Grains)?));
                 }
-                self.wait = Wait::Lock { grain, mode };
+                drop(mem::replace(&mut self.wait, Wait::Lock { grain, mode }));
                 Ok(Flow::Paused)
             }
             Some(Mode::Update) => Ok(Flow::Moved),
             Some(Mode::Read) => match mode {
                 Mode::Read => Ok(Flow::Moved),
                 Mode::Update => {
-                    self.wait = Wait::Raise { grain };
+                    drop(mem::replace(&mut self.wait, Wait::Raise { grain }));
                     Ok(Flow::Paused)
                 }
             },

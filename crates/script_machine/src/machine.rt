@@ -74,7 +74,9 @@ impl Machine {
         // Nothing has led to it yet.
         ensures follows { IfOk result (λ machine. FollowsTrail (program_tree checked.now) call depth machine []) }
     {
-        let start = Start::of_call(alloc, checked, &call, depth)?;
+        let started = Start::of_call(alloc, checked, &call, depth);
+        drop(call);
+        let start = started?;
         Ok(Machine {
             run: start.run,
             ready: start.ready,
@@ -255,11 +257,13 @@ impl Machine {
             writes,
         } = self;
         let Run {
-            top: _,
-            below: _,
+            top,
+            below,
             has,
             wait,
         } = run;
+        drop(top);
+        drop(below);
         let result = match wait {
             Wait::Over { outcome } => outcome,
             Wait::Lock { .. } => unreachable!(),

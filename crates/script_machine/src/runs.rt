@@ -18,6 +18,7 @@ use script_holding::Holding;
 use script_tree::{Expr, FieldDecl, MethodKind, Stmt};
 use script_values::{Scope, Stop, assign, evaluate};
 use std::alloc::{AllocError, Global};
+use std::mem;
 
 /// What a run waits for: a grain's lock with its state, an exclusive lock in place of a shared one, or a unit of
 /// its own; or it is over.
@@ -100,7 +101,7 @@ impl Run {
         ensures tree { (types : ProgramTree) → End outcome self.old.has ≡ stays types self.new result }
         ensures paused { result ≡ Flow.Paused }
     {
-        self.wait = Wait::Over { outcome };
+        drop(mem::replace(&mut self.wait, Wait::Over { outcome }));
         Flow::Paused
     }
 
@@ -140,26 +141,32 @@ impl Run {
                 Ok(())
             }
             Stmt::Set { .. } => {
+                drop(value);
                 self.top.at += 1;
                 Ok(())
             }
             Stmt::Call { .. } => {
+                drop(value);
                 self.top.at += 1;
                 Ok(())
             }
             Stmt::If { .. } => {
+                drop(value);
                 self.top.at += 1;
                 Ok(())
             }
             Stmt::While { .. } => {
+                drop(value);
                 self.top.at += 1;
                 Ok(())
             }
             Stmt::Return { .. } => {
+                drop(value);
                 self.top.at += 1;
                 Ok(())
             }
             Stmt::Fail { .. } => {
+                drop(value);
                 self.top.at += 1;
                 Ok(())
             }
@@ -210,7 +217,7 @@ impl Run {
         match self.below.pop() {
             None => Ok(self.end(Outcome::Value(value))),
             Some(frame) => {
-                self.top = frame;
+                drop(mem::replace(&mut self.top, frame));
                 self.receive(checked, value)?;
                 Ok(Flow::Moved)
             }

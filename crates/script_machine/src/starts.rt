@@ -75,9 +75,7 @@ impl Run {
             Ok(Flow::Moved) => Ok(true),
             Ok(Flow::Paused) => Ok(false),
             Err(Stop::Fault(text)) => {
-                self.wait = Wait::Over {
-                    outcome: Outcome::Fault(text),
-                };
+                self.end(Outcome::Fault(text));
                 Ok(false)
             }
             Err(Stop::Memory) => Err(AllocError),
@@ -138,8 +136,13 @@ impl Start {
             return Start::over(alloc, checked, callee.grain, Reason::Depth);
         }
         let mut run = Run::first(alloc, callee, kind, context, args, depth)?;
-        let ready = run.lock_first(alloc, callee.grain, kind)?;
-        Ok(Start { run, ready })
+        match run.lock_first(alloc, callee.grain, kind) {
+            Ok(ready) => Ok(Start { run, ready }),
+            Err(fault) => {
+                drop(run);
+                Err(fault)
+            }
+        }
     }
 
     /// The run of a call as a unit whose first frame has this depth.

@@ -69,6 +69,7 @@ impl Run {
     {
         let value = self.value(alloc, checked, value)?;
         let Some(field) = field_number(name, settable(checked, self.top.post)) else {
+            drop(value);
             return Err(Stop::Fault(fault_of(alloc, Reason::Unknown)?));
         };
         self.has.set_field(self.top.post.grain, field, value);

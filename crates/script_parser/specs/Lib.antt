@@ -1,4 +1,5 @@
 pub mod Statements
+pub mod EndedStatements
 pub mod Methods
 pub mod Types
 pub mod Programs

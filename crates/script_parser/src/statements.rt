@@ -1,13 +1,15 @@
 // Statements and their blocks, read from tokens.
-ghost use Rattle.std.specs.Prelude.{◌≡◌, length};
-ghost use Rattle.script_tree.specs.Exprs.{call_tree};
-ghost use Rattle.script_tree.specs.Stmts.{source_tree, stmt_tree, stmt_trees, else_tree};
+ghost use Rattle.std.specs.Prelude.{◌≡◌, ℕ, length};
+ghost use Rattle.script_tree.specs.declared.expressions.Name.{Name as AName};
+ghost use Rattle.script_tree.specs.Exprs.{CallTree};
+ghost use Rattle.script_tree.specs.Stmts.{Try, block_tree, source_tree, stmt_tree, stmt_trees, else_tree};
 ghost use Rattle.script_expressions.specs.TokenReaders.{GivesPart};
+ghost use Rattle.script_parser.specs.EndedStatements.{ended_at};
 ghost use Rattle.script_parser.specs.Statements.{source_at, let_at, assign_at, set_at, call_statement_at, if_at, else_at, while_at, return_at, fail_at, attempt_from, attempt_at, statement_over, statements, block};
 
 use script_expressions::Cursor;
 use script_lexer::{ParseFault, Symbol, Token, Word};
-use script_tree::{CallExpr, Items, Name, Source, Stmt};
+use script_tree::{Items, Name, Source, Stmt};
 use std::alloc::Global;
 
 // What a local is given: a call's answer, or an expression's value.
@@ -25,6 +27,21 @@ fn source(alloc: Global, cursor: &mut Cursor<'_>, depth: u8) -> Result<Source, P
     Ok(Source::computed(value))
 }
 
+// The statement, where a semicolon ends it.
+fn ended(cursor: &mut Cursor<'_>, statement: Stmt) -> Result<Stmt, ParseFault>
+    ensures read { GivesPart stmt_tree result cursor.new.tokens.now
+        (ended_at cursor.old.stop (stmt_tree statement) cursor.old.tokens.now) }
+    ensures stop { cursor.new.stop ≡ cursor.old.stop }
+{
+    match cursor.expect(Symbol::Semicolon) {
+        Ok(_) => Ok(statement),
+        Err(fault) => {
+            drop(statement);
+            Err(fault)
+        }
+    }
+}
+
 // Each of these stands behind its first word, or its first name.
 
 #[tactic(auto, unfolding(crate::specs::Statements::let_at))]
@@ -36,8 +53,7 @@ fn declaration(alloc: Global, cursor: &mut Cursor<'_>, depth: u8) -> Result<Stmt
     let name = cursor.name()?;
     cursor.expect(Symbol::Assign)?;
     let value = source(alloc, cursor, depth)?;
-    cursor.expect(Symbol::Semicolon)?;
-    Ok(Stmt::bind(name, value))
+    ended(cursor, Stmt::bind(name, value))
 }
 
 #[tactic(auto, unfolding(crate::specs::Statements::assign_at))]
@@ -53,8 +69,7 @@ fn assignment(
 {
     cursor.expect(Symbol::Assign)?;
     let value = source(alloc, cursor, depth)?;
-    cursor.expect(Symbol::Semicolon)?;
-    Ok(Stmt::rebind(name, value))
+    ended(cursor, Stmt::rebind(name, value))
 }
 
 #[tactic(auto, unfolding(crate::specs::Statements::set_at))]
@@ -66,8 +81,7 @@ fn field_write(alloc: Global, cursor: &mut Cursor<'_>, depth: u8) -> Result<Stmt
     let name = cursor.name()?;
     cursor.expect(Symbol::Assign)?;
     let value = cursor.expression(alloc, depth)?;
-    cursor.expect(Symbol::Semicolon)?;
-    Ok(Stmt::set_field(name, value))
+    ended(cursor, Stmt::set_field(name, value))
 }
 
 #[tactic(auto, unfolding(crate::specs::Statements::call_statement_at))]
@@ -77,8 +91,7 @@ fn call_statement(alloc: Global, cursor: &mut Cursor<'_>, depth: u8) -> Result<S
     ensures stop { cursor.new.stop ≡ cursor.old.stop }
 {
     let call = cursor.call(alloc, depth)?;
-    cursor.expect(Symbol::Semicolon)?;
-    Ok(Stmt::perform(call))
+    ended(cursor, Stmt::perform(call))
 }
 
 #[tactic(auto, unfolding(crate::specs::Statements::return_at))]
@@ -88,8 +101,7 @@ fn answer(alloc: Global, cursor: &mut Cursor<'_>, depth: u8) -> Result<Stmt, Par
     ensures stop { cursor.new.stop ≡ cursor.old.stop }
 {
     let value = cursor.expression(alloc, depth)?;
-    cursor.expect(Symbol::Semicolon)?;
-    Ok(Stmt::give(value))
+    ended(cursor, Stmt::give(value))
 }
 
 #[tactic(auto, unfolding(crate::specs::Statements::fail_at))]
@@ -99,8 +111,7 @@ fn failure(cursor: &mut Cursor<'_>) -> Result<Stmt, ParseFault>
     ensures stop { cursor.new.stop ≡ cursor.old.stop }
 {
     let text = cursor.text()?;
-    cursor.expect(Symbol::Semicolon)?;
-    Ok(Stmt::fail_with(text))
+    ended(cursor, Stmt::fail_with(text))
 }
 
 #[cycle(block)]
@@ -157,27 +168,32 @@ fn attempt(alloc: Global, cursor: &mut Cursor<'_>, depth: u8, at: u32) -> Result
     cursor.expect(Symbol::Assign)?;
     cursor.expect_word(Word::Call)?;
     let call = cursor.call(alloc, depth)?;
-    attempt_blocks(alloc, cursor, depth, at, name, call)
+    match attempt_blocks(alloc, cursor, depth) {
+        Ok((then, other)) => Ok(Stmt::attempt(at, name, call, then, other)),
+        Err(fault) => {
+            drop(name);
+            drop(call);
+            Err(fault)
+        }
+    }
 }
 
-// The two blocks of an attempt at this place, behind its call.
+// The two blocks of an attempt, behind its call: wherever it stands, whatever it calls and whatever gets the answer.
 #[cycle(block)]
 fn attempt_blocks(
     alloc: Global,
     cursor: &mut Cursor<'_>,
     depth: u8,
-    at: u32,
-    name: Name,
-    call: CallExpr,
-) -> Result<Stmt, ParseFault>
-    ensures read { GivesPart stmt_tree result cursor.new.tokens.now
-        (attempt_from cursor.old.stop (block cursor.old.stop depth) at name (call_tree call) cursor.old.tokens.now) }
+) -> Result<(Items<Stmt>, Items<Stmt>), ParseFault>
+    ensures read { (at : ℕ) (name : AName) (call : CallTree) → GivesPart
+        (λ blocks. Try at name call (block_tree (stmt_trees blocks.0.list.items)) (block_tree (stmt_trees blocks.1.list.items)))
+        result cursor.new.tokens.now (attempt_from cursor.old.stop (block cursor.old.stop depth) at name call cursor.old.tokens.now) }
     ensures stop { cursor.new.stop ≡ cursor.old.stop }
 {
     let then = read_block(alloc, cursor, depth)?;
     cursor.expect_word(Word::Else)?;
     let other = read_block(alloc, cursor, depth)?;
-    Ok(Stmt::attempt(at, name, call, then, other))
+    Ok((then, other))
 }
 
 #[cycle(block)]
