@@ -56,16 +56,7 @@ impl CellTable {
         }
     }
 
-    /// What the grain's locks answer to a unit that asks.
-    pub fn ask(&self, unit: UnitNo, grain: GrainId, mode: Mode) -> Ask
-        ensures { result ≡ ask (cell_in self.now grain).holds unit mode }
-    {
-        let (_is_here, ask) = self.is_here_and_ask(unit, grain, mode);
-        ask
-    }
-
-    /// Whether the grain is in memory, and what its locks answer to a unit that asks: what `is_here` and `ask` answer, by one look
-    /// at its cell.
+    /// Whether the grain is in memory, as `is_here` answers, and what its locks answer to a unit that asks, by one look at its cell.
     pub fn is_here_and_ask(&self, unit: UnitNo, grain: GrainId, mode: Mode) -> (bool, Ask)
         ensures { result ≡ (here_in self.now grain, ask (cell_in self.now grain).holds unit mode) }
     {

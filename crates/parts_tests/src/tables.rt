@@ -50,7 +50,7 @@ fn take(table: &mut CellTable, out: &mut String, step: &Step<'_>) -> Result<(), 
         return out.push_str(" = not here");
     }
     table.make_room(grain)?;
-    let Ask::Free = table.ask(unit, grain, mode) else {
+    let (_, Ask::Free) = table.is_here_and_ask(unit, grain, mode) else {
         return out.push_str(" = not free");
     };
     let found = table.top_over(grain, None)?;
@@ -59,7 +59,7 @@ fn take(table: &mut CellTable, out: &mut String, step: &Step<'_>) -> Result<(), 
 }
 
 fn ask(table: &CellTable, out: &mut String, step: &Step<'_>) -> Result<(), AllocError> {
-    let answer = table.ask(step.unit(1), step.grain(2), step.mode(3));
+    let (_, answer) = table.is_here_and_ask(step.unit(1), step.grain(2), step.mode(3));
     write!(out, " = {answer:?}")
 }
 
