@@ -63,7 +63,9 @@ impl Bench {
             number: self.lines,
             what: what_of(alloc, checked, request)?,
         };
-        begin_line(alloc, checked, &mut self.core, &mut self.agents, &line)?;
+        let begun = begin_line(alloc, checked, &mut self.core, &mut self.agents, &line);
+        drop(line);
+        begun?;
         Ok(())
     }
 
@@ -114,8 +116,14 @@ impl Bench {
         match next_settling(&self.core.core, written)? {
             None => Ok(false),
             Some(event) => match Access::put(&mut self.core.core, event) {
-                Ok(_reply) => Ok(true),
-                Err((fault, _event)) => Err(fault),
+                Ok(reply) => {
+                    drop(reply);
+                    Ok(true)
+                }
+                Err((fault, event)) => {
+                    drop(event);
+                    Err(fault)
+                }
             },
         }
     }
@@ -171,18 +179,21 @@ fn what_of(
 }
 
 // The event of the settler's next work, where it has some.
-fn event_for(work: SettlerWork, written: bool) -> Option<CoreEvent>
+fn event_for(work: &SettlerWork, written: bool) -> Option<CoreEvent>
     ensures { IfSome result (λ e. is_settling e ≡ true) }
 {
     match work {
         SettlerWork::Vote { batch, grain, .. } => Some(CoreEvent::Vote {
-            batch,
-            grain,
+            batch: *batch,
+            grain: *grain,
             yes: written,
         }),
-        SettlerWork::Decide { batch } => Some(CoreEvent::Decide { batch }),
-        SettlerWork::Seal { batch, .. } => Some(CoreEvent::Sealed { batch }),
-        SettlerWork::Learn { unit, grain } => Some(CoreEvent::Learn { unit, grain }),
+        SettlerWork::Decide { batch } => Some(CoreEvent::Decide { batch: *batch }),
+        SettlerWork::Seal { batch, .. } => Some(CoreEvent::Sealed { batch: *batch }),
+        SettlerWork::Learn { unit, grain } => Some(CoreEvent::Learn {
+            unit: *unit,
+            grain: *grain,
+        }),
         SettlerWork::Write { .. } => Some(CoreEvent::Emitted),
         SettlerWork::Take => Some(CoreEvent::Take),
         // Memory has no limit here.
@@ -191,11 +202,20 @@ fn event_for(work: SettlerWork, written: bool) -> Option<CoreEvent>
     }
 }
 
+fn event_in(answer: &CoreAnswer, written: bool) -> Option<CoreEvent>
+    ensures { IfSome result (λ e. is_settling e ≡ true) }
+{
+    match answer {
+        CoreAnswer::NextStep(work) => event_for(work, written),
+        _ => None,
+    }
+}
+
 fn next_settling(core: &Core, written: bool) -> Result<Option<CoreEvent>, AllocError>
     ensures { IfOk result (λ next. IfSome next (λ e. is_settling e ≡ true)) }
 {
-    match core.ask(&CoreQuestion::NextStep)? {
-        CoreAnswer::NextStep(work) => Ok(event_for(work, written)),
-        _ => Ok(None),
-    }
+    let answer = core.ask(&CoreQuestion::NextStep)?;
+    let event = event_in(&answer, written);
+    drop(answer);
+    Ok(event)
 }

@@ -49,7 +49,20 @@ fn memory_of(word: &str) -> Option<NonZeroUsize> {
     NonZeroUsize::new(count.parse::<usize>().ok()?)
 }
 
-// What the words of a row say. A word that says nothing is left out.
+// A word of a row. One that says nothing is left out.
+fn add_word(race: &mut Race, word: &str) -> Result<(), AllocError> {
+    if word.starts_with("{") {
+        race.input.push_str(word)?;
+        race.input.push_str("\n")?;
+    } else if let Some(count) = memory_of(word) {
+        race.memory = Some(count);
+    } else if let Some(planned) = planned_by(word) {
+        race.plan.push(planned)?;
+    }
+    Ok(())
+}
+
+// What the words of a row say.
 fn race_of(alloc: Global, words: &str) -> Result<Race, AllocError> {
     let mut race = Race {
         input: String::new(alloc),
@@ -57,13 +70,12 @@ fn race_of(alloc: Global, words: &str) -> Result<Race, AllocError> {
         memory: None,
     };
     for word in words.split(' ') {
-        if word.starts_with("{") {
-            race.input.push_str(word)?;
-            race.input.push_str("\n")?;
-        } else if let Some(count) = memory_of(word) {
-            race.memory = Some(count);
-        } else if let Some(planned) = planned_by(word) {
-            race.plan.push(planned)?;
+        match add_word(&mut race, word) {
+            Ok(()) => {}
+            Err(error) => {
+                drop(race);
+                return Err(error);
+            }
         }
     }
     Ok(race)
@@ -93,6 +105,12 @@ fn add_times(out: &mut String, line: &str, times: u32) -> Result<(), AllocError>
     }
 }
 
+fn folded(alloc: Global, text: &str) -> Result<String, AllocError> {
+    let mut out = String::new(alloc);
+    add_folded(&mut out, text)?;
+    Ok(out)
+}
+
 // None of the grains used last yet, of which so many stay in memory.
 fn unused(alloc: Global, memory: Option<NonZeroUsize>) -> Result<Option<Recent>, AllocError>
     ensures { IfOk result (λ made. used_of made ≡ []) }
@@ -113,8 +131,15 @@ fn new_core(
     ensures { IfOk result (λ core. 0 < (run_of core).base) }
 {
     let recent = unused(alloc, memory)?;
+    let shape = match checked.shape() {
+        Ok(shape) => shape,
+        Err(error) => {
+            drop(recent);
+            return Err(error);
+        }
+    };
     let opened = Opening {
-        shape: checked.shape()?,
+        shape,
         opened: OpeningStates::Stored(Store::new(alloc)),
         next_unit: UnitNo(1),
         recent,
@@ -181,9 +206,7 @@ fn carry<R: Wait>(
     }
     let mut told = told;
     let text = told.take_text(alloc);
-    let mut out = String::new(alloc);
-    add_folded(&mut out, text.as_str())?;
-    Ok(out)
+    folded(alloc, text.as_str())
 }
 
 /// Carries lines by one worker over a core that it shares with another, and answers the events of both, one a line.
@@ -199,7 +222,10 @@ pub fn play_race<R: Wait>(
     match TurnCell::new(alloc, core) {
         Ok((cell, pass)) => {
             let (pass, other) = cell.split(pass);
-            carry(rt, alloc, checked, &race, &cell, pass, other)
+            let carried = carry(rt, alloc, checked, &race, &cell, pass, other);
+            drop(cell);
+            drop(race);
+            carried
         }
         Err(AllocError) => Err(AllocError),
     }

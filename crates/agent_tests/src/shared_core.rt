@@ -43,10 +43,12 @@ impl<'a, R: Wait> SharedCore<'a, R> {
             return;
         };
         self.told.tell_event(&event);
-        match self.cell.put(self.rt, &mut self.other, event) {
-            Ok(reply) => self.told.tell_reply(&reply),
-            Err(_refused) => self.told.tell(": no memory\n"),
+        let put = self.cell.put(self.rt, &mut self.other, event);
+        match &put {
+            Ok(reply) => self.told.tell_reply(reply),
+            Err(_) => self.told.tell(": no memory\n"),
         }
+        drop(put);
     }
 
     // The other puts what is planned before this look or event.

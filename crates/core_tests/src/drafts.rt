@@ -13,15 +13,19 @@ pub struct Draft {
     state: State,
 }
 
+fn empty_call(alloc: Global) -> Call {
+    Call {
+        grain: GrainId { kind: 0, key: 0 },
+        method: 0,
+        args: List::new(alloc),
+    }
+}
+
 fn empty_effect(alloc: Global) -> Effect {
     Effect {
         unit: UnitNo(0),
         origin: Origin::Line(0),
-        call: Call {
-            grain: GrainId { kind: 0, key: 0 },
-            method: 0,
-            args: List::new(alloc),
-        },
+        call: empty_call(alloc),
         answers: List::new(alloc),
         reads: List::new(alloc),
         writes: List::new(alloc),
@@ -44,6 +48,14 @@ impl Draft {
         let mut effect = mem::replace(&mut self.effect, empty_effect(self.alloc));
         effect.unit = unit;
         effect
+    }
+
+    /// The result that was told. From then on nothing was said.
+    pub fn take_result(&mut self) -> Outcome {
+        let mut effect = self.take_effect(UnitNo(0));
+        let result = mem::replace(&mut effect.result, Outcome::Aborted);
+        drop(effect);
+        result
     }
 
     /// The state that was told. From then on it has no field.
@@ -84,9 +96,13 @@ impl Draft {
 
     fn set_fault(&mut self) -> Result<(), AllocError> {
         if let Some(text) = Text::new(self.alloc, "funds")? {
-            self.effect.result = Outcome::Fault(text);
+            self.set_result(Outcome::Fault(text));
         }
         Ok(())
+    }
+
+    fn set_result(&mut self, outcome: Outcome) {
+        drop(mem::replace(&mut self.effect.result, outcome));
     }
 
     fn set_call(&mut self, numbers: Numbers) {
@@ -100,8 +116,8 @@ impl Draft {
             Note::OfLine => self.effect.origin = Origin::Line(short(numbers.first)),
             Note::OfChild => self.effect.origin = numbers.child(),
             Note::Call => self.set_call(numbers),
-            Note::Value => self.effect.result = Outcome::Value(Value::Int(numbers.first)),
-            Note::Abort => self.effect.result = Outcome::Aborted,
+            Note::Value => self.set_result(Outcome::Value(Value::Int(numbers.first))),
+            Note::Abort => self.set_result(Outcome::Aborted),
             Note::Fault => self.set_fault()?,
             Note::Answer => self.add_answer()?,
             Note::Field => self.add_field(numbers.first)?,
@@ -113,10 +129,13 @@ impl Draft {
 
     /// The begin of a unit with the origin and the call that were told. From then on nothing was said.
     pub fn begin(&mut self, plain: bool) -> CoreEvent {
-        let effect = self.take_effect(UnitNo(0));
+        let mut effect = self.take_effect(UnitNo(0));
+        let origin = effect.origin;
+        let call = mem::replace(&mut effect.call, empty_call(self.alloc));
+        drop(effect);
         CoreEvent::Begin {
-            origin: effect.origin,
-            call: effect.call,
+            origin,
+            call,
             plain,
         }
     }

@@ -78,7 +78,7 @@ pub fn made(draft: &mut Draft, event: Event, numbers: Numbers) -> CoreEvent {
         Event::EndSnapshot => CoreEvent::EndSnapshot {
             unit,
             at: natural(numbers.second),
-            outcome: draft.take_effect(unit).result,
+            outcome: draft.take_result(),
         },
         Event::Load => CoreEvent::Load {
             grain,

@@ -27,5 +27,7 @@ fn carry_all<W: Write>(out: &mut W, run: &mut Run, script: &str) -> io::Result<(
 fn main(rt: HostRuntime) -> io::Result<()> {
     let script = io::read_to_string(rt.alloc(), rt.reader())?;
     let mut run = Run::new(rt.alloc())?;
-    carry_all(&mut io::writer(&rt), &mut run, script.as_str())
+    let carried = carry_all(&mut io::writer(&rt), &mut run, script.as_str());
+    drop(run);
+    carried
 }

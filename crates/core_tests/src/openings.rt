@@ -26,12 +26,46 @@ fn type_shape(alloc: Global, name: &str, initial: State) -> Result<TypeShape, Al
     })
 }
 
+fn add_types(alloc: Global, types: &mut List<TypeShape>) -> Result<(), AllocError> {
+    types.push(type_shape(alloc, "account", number_state(alloc, 0)?)?)?;
+    types.push(type_shape(alloc, "probe", State::new(alloc))?)?;
+    Ok(())
+}
+
 // Two types: the first has one field, 0 at first, and the second none.
 fn shape(alloc: Global) -> Result<Shape, AllocError> {
     let mut types = List::new(alloc);
-    types.push(type_shape(alloc, "account", number_state(alloc, 0)?)?)?;
-    types.push(type_shape(alloc, "probe", State::new(alloc))?)?;
-    Ok(Shape { types })
+    match add_types(alloc, &mut types) {
+        Ok(()) => Ok(Shape { types }),
+        Err(error) => {
+            drop(types);
+            Err(error)
+        }
+    }
+}
+
+// The grain of the first type with the key 0 has 100.
+fn store(alloc: Global) -> Result<Store, AllocError> {
+    let state = number_state(alloc, 100)?;
+    let mut store = Store::new(alloc);
+    match store.put(GrainId { kind: 0, key: 0 }, state) {
+        Ok(()) => Ok(store),
+        Err(error) => {
+            drop(store);
+            Err(error)
+        }
+    }
+}
+
+fn shape_and_store(alloc: Global) -> Result<(Shape, Store), AllocError> {
+    let shape = shape(alloc)?;
+    match store(alloc) {
+        Ok(store) => Ok((shape, store)),
+        Err(error) => {
+            drop(shape);
+            Err(error)
+        }
+    }
 }
 
 // None of the grains used last, of which so many stay in memory; none at all where that is 0, so that every grain does.
@@ -51,14 +85,18 @@ pub fn opening(alloc: Global, next_unit: u64, limit: usize) -> Result<Opening, A
     ensures unit { IfOk result (λ made. made.next_unit.0 ≡ next_unit) }
     ensures unused { IfOk result (λ made. used_of made.recent ≡ []) }
 {
-    let shape = shape(alloc)?;
-    let mut store = Store::new(alloc);
-    store.put(GrainId { kind: 0, key: 0 }, number_state(alloc, 100)?)?;
-    Ok(Opening {
-        shape,
-        opened: OpeningStates::Stored(store),
-        next_unit: UnitNo(next_unit),
-        recent: recent(alloc, limit)?,
-        keeps_last: true,
-    })
+    let recent = recent(alloc, limit)?;
+    match shape_and_store(alloc) {
+        Ok((shape, store)) => Ok(Opening {
+            shape,
+            opened: OpeningStates::Stored(store),
+            next_unit: UnitNo(next_unit),
+            recent,
+            keeps_last: true,
+        }),
+        Err(error) => {
+            drop(recent);
+            Err(error)
+        }
+    }
 }

@@ -6,11 +6,12 @@ use crate::openings::opening;
 use crate::shared_cores::{is_object, next_line, spoil};
 use crate::surveys::{Wanted, sum_of, survey};
 use crate::texts::{add_entries, add_reply};
-use crate::verbs::{Look, Verb, verb_of};
+use crate::verbs::{Event, Look, Verb, verb_of};
 use base_types::Entry;
 use core_model::{CoreEvent, CoreReply};
 use history_core::Core;
 use std::alloc::{AllocError, Global};
+use std::mem;
 use test_cases::{Numbers, natural, short, three_numbers};
 
 // The greatest number that a core's first unit may have.
@@ -47,10 +48,19 @@ impl Run {
     /// Carries a line. What is said to it is a line of its own, or nothing.
     pub fn carry(&mut self, line: &str) -> Result<(), AllocError> {
         self.said.clear();
-        if let Some(title) = line.strip_prefix("title ") {
-            self.said.push_str(title)?;
-            return self.said.push_str("\n");
+        match line.strip_prefix("title ") {
+            Some(title) => self.say_line(title),
+            None => self.carry_words(line),
         }
+    }
+
+    fn say_line(&mut self, line: &str) -> Result<(), AllocError> {
+        self.said.push_str(line)?;
+        self.said.push_str("\n")
+    }
+
+    // Carries a line that is no title.
+    fn carry_words(&mut self, line: &str) -> Result<(), AllocError> {
         let mut words = line.split_whitespace();
         let verb = verb_of(words.next().unwrap_or(""));
         match (verb, three_numbers(&mut words)) {
@@ -63,6 +73,7 @@ impl Run {
         match verb {
             Verb::Note(note) => return self.draft.note(note, numbers),
             Verb::Event(event) => {
+                self.keep_written(event)?;
                 let event = made(&mut self.draft, event, numbers);
                 self.put(event)?;
             }
@@ -72,9 +83,9 @@ impl Run {
     }
 
     // Keeps the entry that an event writes, if any.
-    fn keep_written(&mut self, event: &CoreEvent) -> Result<(), AllocError> {
+    fn keep_written(&mut self, event: Event) -> Result<(), AllocError> {
         match (event, self.core.next_settled()) {
-            (CoreEvent::Emitted, Some(entry)) => {
+            (Event::Emitted, Some(entry)) => {
                 let entry = entry.copy()?;
                 self.written.push(entry)?;
                 Ok(())
@@ -85,11 +96,12 @@ impl Run {
 
     // Puts an event.
     fn put(&mut self, event: CoreEvent) -> Result<(), AllocError> {
-        self.keep_written(&event)?;
         match self.core.step(event) {
             Ok(reply) => {
                 self.wanted = None;
-                add_reply(&mut self.said, &reply)
+                let said = add_reply(&mut self.said, &reply);
+                drop(reply);
+                said
             }
             Err((_error, back)) => self.put_again(back),
         }
@@ -100,10 +112,13 @@ impl Run {
         let kind = kind_of(&back);
         let is_as_before = self.is_as_before();
         self.wanted = None;
-        match self.core.step(back) {
-            Ok(reply) => self.tell_again(kind, is_as_before, &reply),
+        let stepped = self.core.step(back);
+        let said = match &stepped {
+            Ok(reply) => self.tell_again(kind, is_as_before, reply),
             Err(_) => self.said.push_str(refusal(kind)),
-        }
+        };
+        drop(stepped);
+        said
     }
 
     // Says the reply to an event that came back once.
@@ -157,38 +172,52 @@ impl Run {
         if base == 0 || base > LAST_BASE {
             return self.said.push_str("no such number");
         }
-        self.core = Core::new(self.alloc, opening(self.alloc, base, limit as usize)?);
+        let opening = opening(self.alloc, base, limit as usize)?;
+        self.begin(Core::new(self.alloc, opening));
+        self.said.push_str("opened")
+    }
+
+    // Goes on with this core, of which nothing is written.
+    fn begin(&mut self, core: Core) {
+        drop(mem::replace(&mut self.core, core));
         self.written.clear();
         self.wanted = None;
-        self.said.push_str("opened")
     }
 
     // What a line asks that puts no event, but for a spoilt line.
     fn look(&mut self, look: Look, numbers: Numbers) -> Result<(), AllocError> {
         match look {
             Look::Open => self.open(natural(numbers.first), short(numbers.second)),
-            Look::Sum => {
-                self.ask(numbers)?;
-                let sum = sum_of(self.answered.as_str());
-                write!(self.said, "{sum}")
-            }
-            Look::Tell => {
-                self.ask(numbers)?;
-                self.said.push_str(self.answered.as_str())
-            }
+            Look::Sum => self.say_sum(numbers),
+            Look::Tell => self.tell(numbers),
             Look::Entries => add_entries(&mut self.said, self.written.as_slice(), &self.core),
-            Look::See => {
-                let line = next_line(&mut self.core)?;
-                write!(self.said, "{line}")
-            }
-            Look::Spoil => {
-                let done = spoil(&mut self.core, short(numbers.first));
-                self.said.push_str(if done { "done" } else { "no" })
-            }
+            Look::See => self.say_next_line(),
+            Look::Spoil => self.spoil(short(numbers.first)),
             Look::Object => {
                 let is_object = is_object(&self.core);
                 self.said.push_str(if is_object { "yes" } else { "no" })
             }
         }
+    }
+
+    fn say_sum(&mut self, numbers: Numbers) -> Result<(), AllocError> {
+        self.ask(numbers)?;
+        let sum = sum_of(self.answered.as_str());
+        write!(self.said, "{sum}")
+    }
+
+    fn tell(&mut self, numbers: Numbers) -> Result<(), AllocError> {
+        self.ask(numbers)?;
+        self.said.push_str(self.answered.as_str())
+    }
+
+    fn say_next_line(&mut self) -> Result<(), AllocError> {
+        let line = next_line(&mut self.core)?;
+        write!(self.said, "{line}")
+    }
+
+    fn spoil(&mut self, line: u32) -> Result<(), AllocError> {
+        let done = spoil(&mut self.core, line);
+        self.said.push_str(if done { "done" } else { "no" })
     }
 }

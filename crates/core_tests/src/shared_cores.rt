@@ -13,10 +13,13 @@ pub fn is_object<T: TurnObject>(_object: &T) -> bool {
 pub fn next_line<A: Access>(access: &mut A) -> Result<u64, AllocError>
     requires { A.is_fit access.old }
 {
-    match access.see(&CoreQuestion::NextLine)? {
-        CoreAnswer::NextLine(line) => Ok(line),
+    let answer = access.see(&CoreQuestion::NextLine)?;
+    let line = match &answer {
+        CoreAnswer::NextLine(line) => Ok(*line),
         _ => Err(AllocError),
-    }
+    };
+    drop(answer);
+    line
 }
 
 /// Puts that the line is bad, and says whether that was done, through any access.
@@ -24,8 +27,11 @@ pub fn spoil<A: Access>(access: &mut A, line: u32) -> bool
     requires { A.is_fit access.old }
 {
     let why = BadRequest::Json;
-    match access.put(CoreEvent::Bad { line, why }) {
+    let reply = access.put(CoreEvent::Bad { line, why });
+    let is_done = match &reply {
         Ok(CoreReply::Done) => true,
         _ => false,
-    }
+    };
+    drop(reply);
+    is_done
 }

@@ -28,7 +28,9 @@ const PLAIN_QUESTIONS: [CoreQuestion; 8] = [
 
 fn add(out: &mut String, core: &Core, question: &CoreQuestion) -> Result<(), AllocError> {
     let answer = core.ask(question)?;
-    add_answer(out, &answer)?;
+    let added = add_answer(out, &answer);
+    drop(answer);
+    added?;
     out.push_str(" ")
 }
 
@@ -38,10 +40,13 @@ fn is_active(core: &Core, unit: UnitNo) -> Result<bool, AllocError> {
         grain: GRAINS[0],
         mode: Mode::Read,
     };
-    match core.ask(&question)? {
-        CoreAnswer::Ask(AskAnswer::NotActive) => Ok(false),
-        _ => Ok(true),
-    }
+    let answer = core.ask(&question)?;
+    let is_active = match &answer {
+        CoreAnswer::Ask(AskAnswer::NotActive) => false,
+        _ => true,
+    };
+    drop(answer);
+    Ok(is_active)
 }
 
 fn add_asks(out: &mut String, core: &Core, unit: UnitNo) -> Result<(), AllocError> {
@@ -71,8 +76,8 @@ fn add_grains(out: &mut String, core: &Core) -> Result<(), AllocError> {
     if !core.keeps_last() {
         return Ok(());
     }
-    for grain in GRAINS {
-        add_last(out, core.last_state(grain))?;
+    for grain in &GRAINS {
+        add_last(out, core.last_state(*grain))?;
         out.push_str(" ")?;
     }
     Ok(())

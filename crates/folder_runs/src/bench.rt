@@ -1,4 +1,4 @@
-use crate::command_runs::{Asked, carry};
+use crate::command_runs::{Asked, Ended, carry};
 use crate::ends::text_of;
 use crate::sweep::add_sweep;
 use std::alloc::{AllocError, Global};
@@ -24,6 +24,18 @@ fn fault_of(word: &str) -> Fault {
     }
 }
 
+// Writes how a command ended, by how many calls, and what it put out.
+fn add_ended(alloc: Global, out: &mut String, ended: &Ended) -> Result<(), AllocError> {
+    let text = text_of(alloc, ended)?;
+    let calls = ended.calls;
+    write!(out, " -> {text}, {calls} calls")?;
+    drop(text);
+    for line in ended.output.lines() {
+        write!(out, "\n{line}")?;
+    }
+    Ok(())
+}
+
 impl<'a> Bench<'a> {
     /// A bench over this machine, before the first row.
     pub fn new(alloc: Global, machine: &'a Machine) -> Bench<'a> {
@@ -37,23 +49,33 @@ impl<'a> Bench<'a> {
     /// What is told of a line: nothing of one that only says what cases show, or lays out what they find.
     pub fn told(&mut self, line: &str) -> Result<String, AllocError> {
         let mut out = String::new(self.alloc);
+        self.add_told(&mut out, line)?;
+        Ok(out)
+    }
+
+    // Writes what is told of a line.
+    fn add_told(&mut self, out: &mut String, line: &str) -> Result<(), AllocError> {
         let (word, rest) = line.split_once(' ').unwrap_or((line, ""));
         match word {
-            "" | "#" => {}
+            "" | "#" => Ok(()),
             "empty" => {
-                self.machine.hold(&[])?;
                 self.input.clear();
+                self.machine.hold(&[])
             }
-            "bank" => self.input = String::from_str(self.alloc, BANK)?,
-            "<" => {
-                self.input.push_str(rest)?;
-                self.input.push_str("\n")?;
+            "bank" => {
+                self.input.clear();
+                self.input.push_str(BANK)
             }
-            "silo" => self.add_command(&mut out, rest)?,
-            "fails" => self.add_fails(&mut out, rest)?,
-            _ => out.push_str(" -> no such case")?,
+            "<" => self.add_input(rest),
+            "silo" => self.add_command(out, rest),
+            "fails" => self.add_fails(out, rest),
+            _ => out.push_str(" -> no such case"),
         }
-        Ok(out)
+    }
+
+    fn add_input(&mut self, line: &str) -> Result<(), AllocError> {
+        self.input.push_str(line)?;
+        self.input.push_str("\n")
     }
 
     // Carries a command, and writes its end.
@@ -61,13 +83,9 @@ impl<'a> Bench<'a> {
         let input = self.input.as_str();
         let ended = carry(self.alloc, self.machine, Asked { words, input })?;
         self.input.clear();
-        let text = text_of(self.alloc, &ended)?;
-        let calls = ended.calls;
-        write!(out, " -> {text}, {calls} calls")?;
-        for line in ended.output.lines() {
-            write!(out, "\n{line}")?;
-        }
-        Ok(())
+        let added = add_ended(self.alloc, out, &ended);
+        drop(ended);
+        added
     }
 
     // Writes how a command ends where each of its calls fails in turn.

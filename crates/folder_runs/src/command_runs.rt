@@ -62,10 +62,12 @@ fn carry_by_host(
     words: &[String],
 ) -> Result<(Status, bool), AllocError> {
     let mut host = FolderHost::new(alloc, OnMachine(machine), "f")?;
-    match run_alone(alloc, words, &mut host, &OpenGate) {
-        Ok(status) => Ok((status, is_borne_out(&host, status))),
-        Err(_) => Ok((Status::BadUse, false)),
-    }
+    let ended = match run_alone(alloc, words, &mut host, &OpenGate) {
+        Ok(status) => (status, is_borne_out(&host, status)),
+        Err(_) => (Status::BadUse, false),
+    };
+    drop(host);
+    Ok(ended)
 }
 
 /// Carries a command whose nth call of the system is answered so, and where n is 0 each one.
@@ -76,10 +78,12 @@ pub fn carry_with(
     nth: u64,
     fault: Fault,
 ) -> Result<Ended, AllocError> {
-    let words = words_of(alloc, asked.words)?;
     machine.give(asked.input.as_bytes())?;
     machine.fail(nth, fault);
-    let (status, is_borne_out) = carry_by_host(alloc, machine, words.as_slice())?;
+    let words = words_of(alloc, asked.words)?;
+    let ended = carry_by_host(alloc, machine, words.as_slice());
+    drop(words);
+    let (status, is_borne_out) = ended?;
     let calls = machine.calls();
     let _ = machine.taken();
     let output = output_of(alloc, machine)?;

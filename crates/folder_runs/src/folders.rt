@@ -21,16 +21,37 @@ fn goes_on(alloc: Global, machine: &Machine) -> Result<bool, AllocError> {
     };
     let ended = carry(alloc, machine, asked)?;
     let output = ended.output.as_str();
-    Ok(ended.status == Status::Done && has_value(output) && count_lines(output) == 1)
+    let goes_on = ended.status == Status::Done && has_value(output) && count_lines(output) == 1;
+    drop(ended);
+    Ok(goes_on)
+}
+
+// Three reports.
+#[derive(Drop)]
+struct Reports {
+    audit: Ended,
+    history: Ended,
+    shown: Ended,
+}
+
+fn three_reports(alloc: Global, machine: &Machine) -> Result<Reports, AllocError> {
+    let audit = report(alloc, machine, "audit")?;
+    let history = report(alloc, machine, "history")?;
+    let shown = report(alloc, machine, "show")?;
+    Ok(Reports {
+        audit,
+        history,
+        shown,
+    })
 }
 
 // What is untrue of three reports.
-fn untruth_of_reports(
-    said: Said<'_>,
-    audit: &Ended,
-    history: &Ended,
-    shown: &Ended,
-) -> Option<&'static str> {
+fn untruth_of_reports(said: Said<'_>, reports: &Reports) -> Option<&'static str> {
+    let Reports {
+        audit,
+        history,
+        shown,
+    } = reports;
     if audit.status != Status::Done || history.status != Status::Done {
         return Some("an audit or a history that isn't done");
     }
@@ -53,16 +74,37 @@ pub fn untruth_of_silo(
     machine: &Machine,
     said: Said<'_>,
 ) -> Result<Option<&'static str>, AllocError> {
-    let audit = report(alloc, machine, "audit")?;
-    let history = report(alloc, machine, "history")?;
-    let shown = report(alloc, machine, "show")?;
-    if let Some(untruth) = untruth_of_reports(said, &audit, &history, &shown) {
-        return Ok(Some(untruth));
+    let reports = three_reports(alloc, machine)?;
+    let untruth = untruth_of_reports(said, &reports);
+    drop(reports);
+    if untruth.is_some() {
+        return Ok(untruth);
     }
     if !goes_on(alloc, machine)? {
         return Ok(Some("a run that doesn't go on"));
     }
     Ok(None)
+}
+
+// Whether a report is done, and ends with this text.
+fn ends_with(
+    alloc: Global,
+    machine: &Machine,
+    words: &str,
+    wanted: &str,
+) -> Result<bool, AllocError> {
+    let ended = report(alloc, machine, words)?;
+    let ends = ended.status == Status::Done && ended.output.ends_with(wanted);
+    drop(ended);
+    Ok(ends)
+}
+
+// Whether a report is done, and prints this text.
+fn prints(alloc: Global, machine: &Machine, words: &str, wanted: &str) -> Result<bool, AllocError> {
+    let ended = report(alloc, machine, words)?;
+    let prints = ended.status == Status::Done && ended.output.as_str() == wanted;
+    drop(ended);
+    Ok(prints)
 }
 
 /// What is untrue of a folder whose silo was written anew, or wasn't, and that showed these states before.
@@ -71,12 +113,10 @@ pub fn untruth_of_rewriting(
     machine: &Machine,
     states: &str,
 ) -> Result<Option<&'static str>, AllocError> {
-    let audit = report(alloc, machine, "audit")?;
-    if audit.status != Status::Done || !audit.output.ends_with("\"first_bad\":null}\n") {
+    if !ends_with(alloc, machine, "audit", "\"first_bad\":null}\n")? {
         return Ok(Some("an audit that finds a bad record"));
     }
-    let shown = report(alloc, machine, "show")?;
-    if shown.status != Status::Done || shown.output.as_str() != states {
+    if !prints(alloc, machine, "show", states)? {
         return Ok(Some("other states than before"));
     }
     if !goes_on(alloc, machine)? {
@@ -91,6 +131,17 @@ fn is_new(audit: &Ended, shown: &Ended) -> bool {
     is_audited && shown.status == Status::Done && shown.output.as_str() == "{\"count\":0}\n"
 }
 
+// Whether the folder is no silo, and whether it is a new one.
+fn looks_new(alloc: Global, machine: &Machine) -> Result<(bool, bool), AllocError> {
+    let audit = report(alloc, machine, "audit")?;
+    let shown = report(alloc, machine, "show")?;
+    let is_none = audit.status == Status::NotASilo && shown.status == Status::NotASilo;
+    let is_silo = audit.status == Status::Done && is_new(&audit, &shown);
+    drop(audit);
+    drop(shown);
+    Ok((is_none, is_silo))
+}
+
 // Makes the silo again, and answers whether that ends so.
 fn makes_again(
     alloc: Global,
@@ -103,7 +154,9 @@ fn makes_again(
         input,
     };
     let again = carry(alloc, machine, asked)?;
-    Ok(again.status == wanted)
+    let status = again.status;
+    drop(again);
+    Ok(status == wanted)
 }
 
 /// What is untrue of a folder of which a silo of this program was made, or wasn't.
@@ -113,10 +166,7 @@ pub fn untruth_of_making(
     input: &str,
     status: Status,
 ) -> Result<Option<&'static str>, AllocError> {
-    let audit = report(alloc, machine, "audit")?;
-    let shown = report(alloc, machine, "show")?;
-    let is_none = audit.status == Status::NotASilo && shown.status == Status::NotASilo;
-    let is_silo = audit.status == Status::Done && is_new(&audit, &shown);
+    let (is_none, is_silo) = looks_new(alloc, machine)?;
     if !is_silo && (!is_none || status == Status::Done) {
         return Ok(Some("something else than a new silo"));
     }

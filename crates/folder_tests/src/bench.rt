@@ -8,7 +8,7 @@ use crate::sweep::add_sweep;
 use host_files::FolderHost;
 use host_trait::{Channel, FileId};
 use std::alloc::{AllocError, Global};
-use std::{fs, io};
+use std::{fs, io, mem};
 use system_calls::{Linux, SystemCalls};
 use system_machine::{Fault, Machine, OnMachine};
 
@@ -45,6 +45,17 @@ fn real_over<'a>(rt: &'a HostRuntime, folder: &str) -> Result<Real<'a>, AllocErr
     FolderHost::new(rt.alloc(), linux, folder)
 }
 
+fn two_real<'a>(rt: &'a HostRuntime) -> Result<(Real<'a>, Real<'a>), AllocError> {
+    let first = real_over(rt, "")?;
+    match real_over(rt, "") {
+        Ok(second) => Ok((first, second)),
+        Err(error) => {
+            drop(first);
+            Err(error)
+        }
+    }
+}
+
 fn fault_of(word: &str) -> Fault {
     match word {
         "refused" => Fault::Refused,
@@ -68,36 +79,66 @@ impl<'a> Bench<'a> {
     /// A bench of a host over this machine, and of two over real folders.
     pub fn new(rt: &'a HostRuntime, machine: &'a Machine) -> Result<Bench<'a>, AllocError> {
         let machined = host_over(rt.alloc(), machine)?;
-        let first = real_over(rt, "")?;
-        let second = real_over(rt, "")?;
-        Ok(Bench {
-            rt,
-            machine,
-            machined,
-            first,
-            second,
-            asked: Asked::Machine,
-        })
+        match two_real(rt) {
+            Ok((first, second)) => Ok(Bench {
+                rt,
+                machine,
+                machined,
+                first,
+                second,
+                asked: Asked::Machine,
+            }),
+            Err(error) => {
+                drop(machined);
+                Err(error)
+            }
+        }
     }
 
     /// What is told of a line: nothing of one that only says what cases show, or which host is there.
     pub fn told(&mut self, line: &str) -> io::Result<String> {
         let mut out = String::new(self.rt.alloc());
         let (word, rest) = line.split_once(' ').unwrap_or((line, ""));
-        if self.lay(word, rest)? {
-            return Ok(out);
-        }
-        out.push_str(" -> ")?;
-        match word {
-            "size" => self.add_size(&mut out, rest)?,
-            "streams" => add_streams(self.rt, &mut out)?,
-            "standard-streams" => add_standard(self.rt, &mut out)?,
-            "machine-streams" => add_machine_streams(self.rt, self.machine, &mut out)?,
-            "sweep" => add_sweep(self.rt.alloc(), self.machine, fault_of(rest), &mut out)?,
-            "told" => add_told(self.rt.alloc(), rest, &mut out)?,
-            _ => self.add_case(&mut out, word, rest)?,
+        if !self.lay(word, rest)? {
+            self.add_told(&mut out, word, rest)?;
         }
         Ok(out)
+    }
+
+    // Writes what is told of a line that asks for something.
+    fn add_told(&mut self, out: &mut String, word: &str, rest: &str) -> io::Result<()> {
+        out.push_str(" -> ")?;
+        match word {
+            "size" => self.add_size(out, rest)?,
+            "streams" => add_streams(self.rt, out)?,
+            "standard-streams" => add_standard(self.rt, out)?,
+            "machine-streams" => add_machine_streams(self.rt, self.machine, out)?,
+            "sweep" => add_sweep(self.rt.alloc(), self.machine, fault_of(rest), out)?,
+            "told" => add_told(self.rt.alloc(), rest, out)?,
+            _ => self.add_case(out, word, rest)?,
+        }
+        Ok(())
+    }
+
+    // Takes a new host over the machine.
+    fn take_machined(&mut self) -> Result<(), AllocError> {
+        let host = host_over(self.rt.alloc(), self.machine)?;
+        drop(mem::replace(&mut self.machined, host));
+        Ok(())
+    }
+
+    // Takes a new host over a real folder, as the first one.
+    fn take_first(&mut self, folder: &str) -> Result<(), AllocError> {
+        let host = real_over(self.rt, folder)?;
+        drop(mem::replace(&mut self.first, host));
+        Ok(())
+    }
+
+    // The same as the second one.
+    fn take_second(&mut self, folder: &str) -> Result<(), AllocError> {
+        let host = real_over(self.rt, folder)?;
+        drop(mem::replace(&mut self.second, host));
+        Ok(())
     }
 
     // Does what a line says of the hosts and folders.
@@ -105,13 +146,13 @@ impl<'a> Bench<'a> {
         match word {
             "" | "#" => {}
             "machine" => {
-                self.machined = host_over(self.rt.alloc(), self.machine)?;
+                self.take_machined()?;
                 self.machine.fail(0, Fault::None);
                 self.machine.restart(rest.parse::<i32>().unwrap_or(0));
                 self.asked = Asked::Machine;
             }
             "again" => {
-                self.machined = host_over(self.rt.alloc(), self.machine)?;
+                self.take_machined()?;
                 let _ = self.machine.taken();
             }
             "crash" => self.machine.crash()?,
@@ -126,8 +167,8 @@ impl<'a> Bench<'a> {
                 let (from, to) = rest.split_once(' ').unwrap_or((rest, ""));
                 fs::rename(self.rt, from, to)?;
             }
-            "first" => self.first = real_over(self.rt, rest)?,
-            "second" => self.second = real_over(self.rt, rest)?,
+            "first" => self.take_first(rest)?,
+            "second" => self.take_second(rest)?,
             "on" => self.asked = asked_of(rest),
             "folder" => fs::create_dir(self.rt, rest)?,
             _ => return Ok(false),

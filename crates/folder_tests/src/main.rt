@@ -31,13 +31,24 @@ use crate::bench::Bench;
 use std::io;
 use system_machine::Machine;
 
+// Writes a line, and what is told of it.
+fn tell(rt: &HostRuntime, bench: &mut Bench<'_>, line: &str) -> io::Result<()> {
+    let told = bench.told(line)?;
+    println!(rt; "{line}{told}")
+}
+
+fn tell_all(rt: &HostRuntime, bench: &mut Bench<'_>) -> io::Result<()> {
+    for line in rt.lines(rt.alloc()) {
+        let line = line?;
+        tell(rt, bench, line.as_str())?;
+    }
+    Ok(())
+}
+
 fn main(rt: HostRuntime) -> io::Result<()> {
     let machine = Machine::new(rt.alloc());
     let mut bench = Bench::new(&rt, &machine)?;
-    for line in rt.lines(rt.alloc()) {
-        let line = line?;
-        let told = bench.told(line.as_str())?;
-        println!(rt; "{line}{told}")?;
-    }
-    Ok(())
+    let told = tell_all(&rt, &mut bench);
+    drop(bench);
+    told
 }

@@ -10,22 +10,36 @@ use std::io;
 use system_calls::{Linux, SystemCalls};
 use system_machine::{Machine, OnMachine};
 
-// Writes what a host answers that pulls twice and emits a line twice, and how many faults of each it counts then.
-fn add_answers<S: SystemCalls + Drop>(
+// Writes what a host answers that pulls twice.
+fn add_pulls<S: SystemCalls + Drop>(
     out: &mut String,
     host: &mut FolderHost<S>,
 ) -> Result<(), AllocError> {
     let mut bytes = [0; 8];
     let first = host.pull(&mut bytes);
     let second = host.pull(&mut [0; 8]);
+    write!(out, "{first:?} {bytes:?}, {second:?}, ")
+}
+
+// Writes what a host answers that emits a line twice.
+fn add_emits<S: SystemCalls + Drop>(
+    out: &mut String,
+    host: &mut FolderHost<S>,
+) -> Result<(), AllocError> {
     let emitted = host.emit(b"a\n");
     let again = host.emit(b"b\n");
+    write!(out, "{emitted:?}, {again:?}, ")
+}
+
+// Writes what a host answers that pulls twice and emits a line twice, and how many faults of each it counts then.
+fn add_answers<S: SystemCalls + Drop>(
+    out: &mut String,
+    host: &mut FolderHost<S>,
+) -> Result<(), AllocError> {
+    add_pulls(out, host)?;
+    add_emits(out, host)?;
     let of_input = host.fault_count(Channel::Input);
     let of_output = host.fault_count(Channel::Output);
-    write!(
-        out,
-        "{first:?} {bytes:?}, {second:?}, {emitted:?}, {again:?}, "
-    )?;
     write!(out, "{of_input} and {of_output} faults")
 }
 
@@ -40,7 +54,9 @@ fn add_over<S: SystemCalls + Drop>(
     requires path { IsTrue S.tells → S.leads ≡ path_of folder.now }
 {
     let mut host = FolderHost::new(alloc, system, folder)?;
-    add_answers(out, &mut host)
+    let added = add_answers(out, &mut host);
+    drop(host);
+    added
 }
 
 /// Writes what a host answers over the system in memory, whose input is sevens, and the calls that it made.
@@ -68,5 +84,6 @@ pub fn add_standard(rt: &HostRuntime, out: &mut String) -> Result<(), AllocError
     let linux = Linux::new(rt, rt.reader(), io::writer(rt));
     let host = FolderHost::new(rt.alloc(), linux, "nowhere")?;
     let faults = host.fault_count(Channel::Input);
+    drop(host);
     write!(out, "{faults} faults")
 }

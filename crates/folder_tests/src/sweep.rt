@@ -79,6 +79,23 @@ fn look(machine: &Machine, told: &Told, wrong: &mut Wrong) -> Result<(), AllocEr
     Ok(())
 }
 
+// The rounds of one run by this host, and a crash behind them. It answers how many calls were made.
+fn run_rounds(
+    host: &mut FolderHost<OnMachine<'_>>,
+    machine: &Machine,
+    wrong: &mut Wrong,
+) -> Result<u64, AllocError> {
+    ask(host, machine, MANAGER, b"abcd", wrong)?;
+    ask(host, machine, GRAIN, b"abcd", wrong)?;
+    let manager = ask(host, machine, MANAGER, b"efgh", wrong)?;
+    let grain = ask(host, machine, GRAIN, b"efgh", wrong)?;
+    let made = machine.calls();
+    machine.crash()?;
+    look(machine, &manager, wrong)?;
+    look(machine, &grain, wrong)?;
+    Ok(made)
+}
+
 // One run, whose nth call fails, and a crash behind it. It answers whether so many calls were made.
 fn run(
     alloc: Global,
@@ -91,15 +108,9 @@ fn run(
     machine.lay(MANAGER, b"xx", false)?;
     machine.fail(nth, fault);
     let mut host = FolderHost::new(alloc, OnMachine(machine), "f")?;
-    ask(&mut host, machine, MANAGER, b"abcd", wrong)?;
-    ask(&mut host, machine, GRAIN, b"abcd", wrong)?;
-    let manager = ask(&mut host, machine, MANAGER, b"efgh", wrong)?;
-    let grain = ask(&mut host, machine, GRAIN, b"efgh", wrong)?;
-    let made = machine.calls();
-    machine.crash()?;
-    look(machine, &manager, wrong)?;
-    look(machine, &grain, wrong)?;
-    Ok(nth <= made)
+    let made = run_rounds(&mut host, machine, wrong);
+    drop(host);
+    Ok(nth <= made?)
 }
 
 /// Writes how many runs there were, one for each call that could fail, and how much was wrong.

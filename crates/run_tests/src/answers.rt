@@ -1,6 +1,6 @@
 // What is told of a command's end and of what a host has.
 use crate::bank::{is_new_silo, program_text, read_books, sum_of};
-use crate::commands::{IMAGES, carry, copied, count_lines, image_of, output_of};
+use crate::commands::{IMAGES, carried, copied, count_lines, image_of, output_of};
 use crate::names::{MANAGER, file_of};
 use host_memory::MemoryHost;
 use silo_top::Status;
@@ -97,7 +97,9 @@ pub fn money_in<R: Threads + Wait + Sync>(
     host: &MemoryHost,
 ) -> Result<Option<i64>, AllocError> {
     let mut image = copied(host)?;
-    match read_books(rt, alloc, &mut image)? {
+    let read = read_books(rt, alloc, &mut image);
+    drop(image);
+    match read? {
         Some(books) => Ok(Some(sum_of(books))),
         None => Ok(None),
     }
@@ -137,12 +139,14 @@ fn add_image<R: Threads + Wait + Sync>(
     rt: &R,
     alloc: Global,
     out: &mut String,
-    mut image: MemoryHost,
+    image: MemoryHost,
     words: &str,
     input: &str,
 ) -> Result<(), AllocError> {
-    let status = carry(rt, alloc, &mut image, words, input)?;
-    add_once(alloc, out, status, &image)
+    let (image, status) = carried(rt, alloc, image, words, input)?;
+    let added = add_once(alloc, out, status, &image);
+    drop(image);
+    added
 }
 
 /// Writes each end, with what is put out, that a command has over the images of a crash, once.

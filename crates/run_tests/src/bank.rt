@@ -1,5 +1,5 @@
 // The program of the runs, and silos of it.
-use crate::commands::{carry, copied, output_of};
+use crate::commands::{carried, carry, copied, output_of};
 use crate::names::{FIRST_ACCOUNT, MANAGER, PROGRAM};
 use host_memory::MemoryHost;
 use silo_top::Status;
@@ -48,17 +48,24 @@ pub fn program_text(alloc: Global) -> Result<String, AllocError> {
 /// A new silo of the bank program.
 pub fn new_silo<R: Threads + Wait + Sync>(rt: &R, alloc: Global) -> Result<MemoryHost, AllocError> {
     let text = program_text(alloc)?;
-    let mut host = MemoryHost::new(alloc, &[])?;
-    carry(rt, alloc, &mut host, "init", text.as_str())?;
+    let host = MemoryHost::new(alloc, &[])?;
+    let (host, _status) = carried(rt, alloc, host, "init", text.as_str())?;
     Ok(host)
+}
+
+// What a silo of the bank program has on its disk where its log is one of format 1.
+fn made_old(host: &mut MemoryHost) -> Result<MemoryHost, AllocError> {
+    host.set_file(MANAGER, OLD_LOG)?;
+    host.set_file(FIRST_ACCOUNT, OLD_VERSION)?;
+    copied(host)
 }
 
 /// A silo of format 1 of the bank program, with one deposit.
 pub fn old_silo<R: Threads + Wait + Sync>(rt: &R, alloc: Global) -> Result<MemoryHost, AllocError> {
     let mut host = new_silo(rt, alloc)?;
-    host.set_file(MANAGER, OLD_LOG)?;
-    host.set_file(FIRST_ACCOUNT, OLD_VERSION)?;
-    copied(&host)
+    let old = made_old(&mut host);
+    drop(host);
+    old
 }
 
 /// A silo of the bank program with three accounts, whose host has put out nothing.
@@ -66,9 +73,11 @@ pub fn new_books<R: Threads + Wait + Sync>(
     rt: &R,
     alloc: Global,
 ) -> Result<MemoryHost, AllocError> {
-    let mut host = new_silo(rt, alloc)?;
-    carry(rt, alloc, &mut host, "run", DEPOSITS)?;
-    copied(&host)
+    let host = new_silo(rt, alloc)?;
+    let (host, _status) = carried(rt, alloc, host, "run", DEPOSITS)?;
+    let copy = copied(&host);
+    drop(host);
+    copy
 }
 
 /// Whether the folder is a silo of this program's text with an empty log.

@@ -16,6 +16,7 @@ use host_memory::MemoryHost;
 use host_trait::FileId;
 use silo_top::Status;
 use std::alloc::{AllocError, Global};
+use std::mem;
 use std::sync::Wait;
 use std::thread::Threads;
 
@@ -74,18 +75,27 @@ impl Bench {
         line: &str,
     ) -> Result<String, AllocError> {
         let mut out = String::new(self.alloc);
+        self.add_told(rt, &mut out, line)?;
+        Ok(out)
+    }
+
+    // Writes what is told of a line.
+    fn add_told<R: Threads + Wait + Sync>(
+        &mut self,
+        rt: &R,
+        out: &mut String,
+        line: &str,
+    ) -> Result<(), AllocError> {
         let (word, rest) = line.split_once(' ').unwrap_or((line, ""));
         if self.take_host(rt, word)? || self.take_input(word, rest)? || self.lay(word, rest)? {
-            out.push_str("\n")?;
-            return Ok(out);
+            return out.push_str("\n");
         }
         out.push_str(" -> ")?;
-        if self.add_lines(rt, &mut out, word, rest)? {
-            return Ok(out);
+        if self.add_lines(rt, out, word, rest)? {
+            return Ok(());
         }
-        self.add_case(rt, &mut out, word, rest)?;
-        out.push_str("\n")?;
-        Ok(out)
+        self.add_case(rt, out, word, rest)?;
+        out.push_str("\n")
     }
 
     // Takes another host by a case that does so.
@@ -102,7 +112,7 @@ impl Bench {
             "crash" => copied(&self.host),
             _ => return Ok(false),
         };
-        self.host = taken?;
+        drop(mem::replace(&mut self.host, taken?));
         Ok(true)
     }
 

@@ -32,9 +32,11 @@ pub fn carry_by<R: Threads + Wait + Sync, G: Gate + Sync>(
     list: &str,
     input: &str,
 ) -> Result<Status, AllocError> {
-    let words = words_of(alloc, list)?;
     host.set_input(input.as_bytes())?;
-    Ok(run_silo(rt, alloc, words.as_slice(), host, gate))
+    let words = words_of(alloc, list)?;
+    let status = run_silo(rt, alloc, words.as_slice(), host, gate);
+    drop(words);
+    Ok(status)
 }
 
 /// Carries out the command of these words over this input.
@@ -48,6 +50,23 @@ pub fn carry<R: Threads + Wait + Sync>(
     carry_by(rt, alloc, host, &OpenGate, list, input)
 }
 
+/// Carries out the command of these words over this input, and gives the host back with how it ended.
+pub fn carried<R: Threads + Wait + Sync>(
+    rt: &R,
+    alloc: Global,
+    mut host: MemoryHost,
+    list: &str,
+    input: &str,
+) -> Result<(MemoryHost, Status), AllocError> {
+    match carry(rt, alloc, &mut host, list, input) {
+        Ok(status) => Ok((host, status)),
+        Err(error) => {
+            drop(host);
+            Err(error)
+        }
+    }
+}
+
 /// Carries out the command of these words over this input, but by workers, without a runtime.
 pub fn carry_alone(
     alloc: Global,
@@ -55,9 +74,11 @@ pub fn carry_alone(
     list: &str,
     input: &str,
 ) -> Result<Result<Status, ByWorkers>, AllocError> {
-    let words = words_of(alloc, list)?;
     host.set_input(input.as_bytes())?;
-    Ok(run_alone(alloc, words.as_slice(), host, &OpenGate))
+    let words = words_of(alloc, list)?;
+    let ended = run_alone(alloc, words.as_slice(), host, &OpenGate);
+    drop(words);
+    Ok(ended)
 }
 
 /// What was put out, as text.

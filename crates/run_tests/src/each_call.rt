@@ -34,7 +34,7 @@ enum Trouble {
 }
 
 // Commands, of which the first has an input, over copies of a host that has so many records; and how many calls come before a line.
-#[derive(Drop)]
+#[derive(Clone, Copy)]
 struct Case<'a> {
     before: &'a MemoryHost,
     list: &'a str,
@@ -130,17 +130,28 @@ fn audit<R: Threads + Wait + Sync>(
     carry(rt, alloc, image, "audit", "")
 }
 
+// The records of what a host holds, which is audited, none where they don't replay.
+fn audited_records<R: Threads + Wait + Sync>(
+    rt: &R,
+    alloc: Global,
+    image: &mut MemoryHost,
+) -> Result<Option<u64>, AllocError> {
+    let status = audit(rt, alloc, image)?;
+    if status != Status::Done {
+        return Ok(None);
+    }
+    Ok(count_in(output_of(image)))
+}
+
 // The records of what a host holds, none where they don't replay.
 fn records_in<R: Threads + Wait + Sync>(
     rt: &R,
     alloc: Global,
     mut image: MemoryHost,
 ) -> Result<Option<u64>, AllocError> {
-    let status = audit(rt, alloc, &mut image)?;
-    if status != Status::Done {
-        return Ok(None);
-    }
-    Ok(count_in(output_of(&image)))
+    let records = audited_records(rt, alloc, &mut image);
+    drop(image);
+    records
 }
 
 // What is untrue of the images that a crash may leave, which replay, and have a record for each line that told of one.
@@ -216,6 +227,36 @@ fn given_to(is_first: bool, input: &str) -> &str {
     if is_first { input } else { "" }
 }
 
+// What is untrue of commands over a copy of the host, whose calls go so far without trouble.
+fn untruth_of_copy<R: Threads + Wait + Sync>(
+    rt: &R,
+    alloc: Global,
+    case: &Case,
+    trouble: Trouble,
+    good: u64,
+    host: &mut MemoryHost,
+) -> Result<Option<&'static str>, AllocError> {
+    make_trouble(host, trouble, good);
+    let mut is_first = true;
+    for words in case.list.split("; ") {
+        let input = given_to(is_first, case.input);
+        let is_begun = is_first && good >= case.quiet;
+        let ended = untruth_of_end(rt, alloc, host, words, input, is_begun)?;
+        if ended.is_some() {
+            return Ok(ended);
+        }
+        let left = untruth_between(rt, alloc, case, trouble, host)?;
+        if left.is_some() {
+            return Ok(left);
+        }
+        is_first = false;
+    }
+    match trouble {
+        Trouble::Failure => Ok(None),
+        Trouble::Stop => untruth_of_images(rt, alloc, case, host),
+    }
+}
+
 // What is untrue of commands whose calls go so far without trouble.
 fn untruth_of_all<R: Threads + Wait + Sync>(
     rt: &R,
@@ -225,25 +266,9 @@ fn untruth_of_all<R: Threads + Wait + Sync>(
     good: u64,
 ) -> Result<Option<&'static str>, AllocError> {
     let mut host = copied(case.before)?;
-    make_trouble(&mut host, trouble, good);
-    let mut is_first = true;
-    for words in case.list.split("; ") {
-        let input = given_to(is_first, case.input);
-        let is_begun = is_first && good >= case.quiet;
-        let ended = untruth_of_end(rt, alloc, &mut host, words, input, is_begun)?;
-        if ended.is_some() {
-            return Ok(ended);
-        }
-        let left = untruth_between(rt, alloc, case, trouble, &host)?;
-        if left.is_some() {
-            return Ok(left);
-        }
-        is_first = false;
-    }
-    match trouble {
-        Trouble::Failure => Ok(None),
-        Trouble::Stop => untruth_of_images(rt, alloc, case, &host),
-    }
+    let untruth = untruth_of_copy(rt, alloc, case, trouble, good, &mut host);
+    drop(host);
+    untruth
 }
 
 // Writes the first untruth of the commands in that trouble behind none, one, .. of so many calls; answers whether there is one.
@@ -268,6 +293,22 @@ fn add_untruth<R: Threads + Wait + Sync>(
     Ok(false)
 }
 
+// Carries commands, one after another.
+fn carry_all<R: Threads + Wait + Sync>(
+    rt: &R,
+    alloc: Global,
+    host: &mut MemoryHost,
+    list: &str,
+    input: &str,
+) -> Result<(), AllocError> {
+    let mut is_first = true;
+    for words in list.split("; ") {
+        carry(rt, alloc, host, words, given_to(is_first, input))?;
+        is_first = false;
+    }
+    Ok(())
+}
+
 // How many calls commands make over a copy of the host where there is no trouble.
 fn count_calls<R: Threads + Wait + Sync>(
     rt: &R,
@@ -277,12 +318,11 @@ fn count_calls<R: Threads + Wait + Sync>(
     input: &str,
 ) -> Result<u64, AllocError> {
     let mut host = copied(before)?;
-    let mut is_first = true;
-    for words in list.split("; ") {
-        carry(rt, alloc, &mut host, words, given_to(is_first, input))?;
-        is_first = false;
-    }
-    Ok(host.calls())
+    let carried = carry_all(rt, alloc, &mut host, list, input);
+    let calls = host.calls();
+    drop(host);
+    carried?;
+    Ok(calls)
 }
 
 // How many calls the first of the commands makes that has no line to carry.

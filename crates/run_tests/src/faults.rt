@@ -31,7 +31,9 @@ fn is_sound<R: Threads + Wait + Sync>(
     output: &str,
     whole: &str,
 ) -> Result<bool, AllocError> {
-    match read_books(rt, alloc, &mut image)? {
+    let read = read_books(rt, alloc, &mut image);
+    drop(image);
+    match read? {
         Some(books) => Ok(may_stand(books, status, output, whole)),
         None => Ok(false),
     }
@@ -74,6 +76,21 @@ fn add_failed<R: Threads + Wait + Sync>(
     write!(out, ", {sound} of {IMAGES} images are sound")
 }
 
+// Has a copy of the host carry the six transfers with a call that fails.
+fn add_copy<R: Threads + Wait + Sync>(
+    rt: &R,
+    alloc: Global,
+    out: &mut String,
+    before: &MemoryHost,
+    fault: Fault,
+    whole: &str,
+) -> Result<(), AllocError> {
+    let mut host = copied(before)?;
+    let added = add_failed(rt, alloc, out, &mut host, fault, whole);
+    drop(host);
+    added
+}
+
 /// Writes how the run of a copy of the host ends whose call fails, how many replies it has where all is done, and how many images
 /// are sound.
 pub fn add_fault<R: Threads + Wait + Sync>(
@@ -84,6 +101,7 @@ pub fn add_fault<R: Threads + Wait + Sync>(
     fault: Fault,
 ) -> Result<(), AllocError> {
     let whole = transferred(rt, alloc, before)?;
-    let mut host = copied(before)?;
-    add_failed(rt, alloc, out, &mut host, fault, output_of(&whole))
+    let added = add_copy(rt, alloc, out, before, fault, output_of(&whole));
+    drop(whole);
+    added
 }

@@ -1,7 +1,7 @@
 // Runs by workers whose threads are held up at each place, as a seed draws it: nothing, a yield, a spin or a sleep. However they
 // come, each line is answered once at most, the log replays, and the money stays.
 use crate::answers::money_in;
-use crate::commands::{carry, carry_by, copied, count_lines, output_of};
+use crate::commands::{carried, carry_by, copied, count_lines, output_of};
 use crate::names::{Fault, fault_of};
 use host_memory::MemoryHost;
 use silo_top::{Gate, GatePlace, Status};
@@ -123,9 +123,10 @@ fn replays<R: Threads + Wait + Sync>(
     alloc: Global,
     host: &MemoryHost,
 ) -> Result<bool, AllocError> {
-    let mut image = copied(host)?;
-    let status = carry(rt, alloc, &mut image, "audit", "")?;
-    Ok(status == Status::Done && output_of(&image).ends_with("\"first_bad\":null}\n"))
+    let (image, status) = carried(rt, alloc, copied(host)?, "audit", "")?;
+    let is_good = output_of(&image).ends_with("\"first_bad\":null}\n");
+    drop(image);
+    Ok(status == Status::Done && is_good)
 }
 
 // Whether a run ended well: no line has two replies, each has one where all was done, the log replays, and the money is there.
@@ -146,7 +147,27 @@ fn is_sound<R: Threads + Wait + Sync>(
     Ok(money_in(rt, alloc, host)? == Some(MONEY))
 }
 
-// Whether a copy of the host carries the run well with this noise, where this call fails.
+// Whether the host carries the run well with this noise, where this call fails.
+fn carries_well<R: Threads + Wait + Sync>(
+    rt: &R,
+    alloc: Global,
+    host: &mut MemoryHost,
+    seed: u64,
+    fault: Option<Fault>,
+    words: &str,
+    input: &str,
+) -> Result<bool, AllocError> {
+    if let Some(fault) = fault {
+        host.fail_on(fault.what, fault.channel, fault.nth)?;
+    }
+    let status = carry_noisy(rt, alloc, host, seed, words, input)?;
+    if fault.is_none() && status != Status::Done {
+        return Ok(false);
+    }
+    is_sound(rt, alloc, host, status, count_lines(input))
+}
+
+// Whether a copy of the host does.
 fn goes_well<R: Threads + Wait + Sync>(
     rt: &R,
     alloc: Global,
@@ -157,14 +178,22 @@ fn goes_well<R: Threads + Wait + Sync>(
     input: &str,
 ) -> Result<bool, AllocError> {
     let mut host = copied(before)?;
-    if let Some(fault) = fault {
-        host.fail_on(fault.what, fault.channel, fault.nth)?;
-    }
-    let status = carry_noisy(rt, alloc, &mut host, seed, words, input)?;
-    if fault.is_none() && status != Status::Done {
-        return Ok(false);
-    }
-    is_sound(rt, alloc, &host, status, count_lines(input))
+    let is_well = carries_well(rt, alloc, &mut host, seed, fault, words, input);
+    drop(host);
+    is_well
+}
+
+// Whether the host carries the run well with this noise, which ends by a stop of the host.
+fn ends_well<R: Threads + Wait + Sync>(
+    rt: &R,
+    alloc: Global,
+    host: &mut MemoryHost,
+    seed: u64,
+    words: &str,
+    input: &str,
+) -> Result<bool, AllocError> {
+    let status = carry_noisy(rt, alloc, host, seed, words, input)?;
+    is_sound(rt, alloc, host, status, count_lines(input))
 }
 
 // Whether a copy of the host carries the run well with this noise, and stops after so many calls.
@@ -178,8 +207,9 @@ fn stops_well<R: Threads + Wait + Sync>(
 ) -> Result<bool, AllocError> {
     let mut host = copied(before)?;
     host.stop_after(stop);
-    let status = carry_noisy(rt, alloc, &mut host, stop, words, input)?;
-    is_sound(rt, alloc, &host, status, count_lines(input))
+    let is_well = ends_well(rt, alloc, &mut host, stop, words, input);
+    drop(host);
+    is_well
 }
 
 /// Carries the input over so many copies of the host, each with a noise of its own, and writes how many went well.

@@ -30,7 +30,9 @@ fn is_sound<R: Threads + Wait + Sync>(
     replies: &str,
     answered: usize,
 ) -> Result<bool, AllocError> {
-    match read_books(rt, alloc, &mut image)? {
+    let read = read_books(rt, alloc, &mut image);
+    drop(image);
+    match read? {
         Some(books) => Ok(is_cut(books, replies, answered)),
         None => Ok(false),
     }
@@ -83,7 +85,9 @@ fn stops_well_after<R: Threads + Wait + Sync>(
     stop: u64,
 ) -> Result<bool, AllocError> {
     let mut host = copied(before)?;
-    stops_well(rt, alloc, &mut host, whole, stop)
+    let is_well = stops_well(rt, alloc, &mut host, whole, stop);
+    drop(host);
+    is_well
 }
 
 // The first call after which the six transfers don't stop well.
@@ -127,5 +131,7 @@ pub fn add_stops<R: Threads + Wait + Sync>(
     before: &MemoryHost,
 ) -> Result<(), AllocError> {
     let whole = transferred(rt, alloc, before)?;
-    add_stopped(rt, alloc, out, before, &whole)
+    let added = add_stopped(rt, alloc, out, before, &whole);
+    drop(whole);
+    added
 }

@@ -85,6 +85,19 @@ pub fn transfer<R: Threads + Wait + Sync>(
     carry(rt, alloc, host, "run --width 4", LINES)
 }
 
+// Writes how the host carries the six transfers, and by how many calls.
+fn add_transferred<R: Threads + Wait + Sync>(
+    rt: &R,
+    alloc: Global,
+    out: &mut String,
+    host: &mut MemoryHost,
+) -> Result<(), AllocError> {
+    let status = transfer(rt, alloc, host)?;
+    add_end(out, status, host)?;
+    let calls = host.calls();
+    write!(out, ", {calls} calls")
+}
+
 /// Writes how a copy of the host carries the six transfers, and by how many calls.
 pub fn add_transfers<R: Threads + Wait + Sync>(
     rt: &R,
@@ -93,10 +106,9 @@ pub fn add_transfers<R: Threads + Wait + Sync>(
     before: &MemoryHost,
 ) -> Result<(), AllocError> {
     let mut host = copied(before)?;
-    let status = transfer(rt, alloc, &mut host)?;
-    add_end(out, status, &host)?;
-    let calls = host.calls();
-    write!(out, ", {calls} calls")
+    let added = add_transferred(rt, alloc, out, &mut host);
+    drop(host);
+    added
 }
 
 /// A copy of the host that has carried the six transfers.
@@ -106,8 +118,13 @@ pub fn transferred<R: Threads + Wait + Sync>(
     before: &MemoryHost,
 ) -> Result<MemoryHost, AllocError> {
     let mut host = copied(before)?;
-    transfer(rt, alloc, &mut host)?;
-    Ok(host)
+    match transfer(rt, alloc, &mut host) {
+        Ok(_status) => Ok(host),
+        Err(error) => {
+            drop(host);
+            Err(error)
+        }
+    }
 }
 
 // What a reply line adds to the books.

@@ -1,5 +1,5 @@
 // A settler over a core of accounts and a recorder.
-ghost use Rattle.std.specs.Prelude.{◌≡◌, ◌<◌, ◌≤◌, Some};
+ghost use Rattle.std.specs.Prelude.{◌≡◌, ◌<◌, ◌≤◌, Some, IfOk};
 ghost use Rattle.std.specs.Coded.{codes};
 ghost use Rattle.std.proofs.Props.{props};
 ghost use Rattle.base_types.specs.Places.{placed_in};
@@ -10,7 +10,7 @@ ghost use Rattle.host_trait.specs.Files.{HasSlot};
 ghost use Rattle.batch_disk.specs.Writers.{IsInBounds};
 ghost use Rattle.settle_tests.specs.Bounds.{in_turn-prop};
 
-use crate::recorder::{Recorder, bytes_in, new_recorder};
+use crate::recorder::{Recorder, bytes_in, new_recorder, recorder_with};
 use crate::units::{
     Add, Waiting, account, carry_out, go_on, new_core, new_programs, new_shape, number_state, want,
 };
@@ -44,6 +44,18 @@ pub struct Bench {
     ghost bounds: { IsInBounds settler.writer } by { Prim.hlevel (in_turn-prop, codes, a_shape.the_row.coded, props) },
 }
 
+// A core of the accounts, and their program's shape.
+fn new_opened(alloc: Global, limit: usize) -> Result<(Shape, Core), AllocError> {
+    let shape = new_shape(alloc)?;
+    match new_core(alloc, limit) {
+        Ok(core) => Ok((shape, core)),
+        Err(error) => {
+            drop(shape);
+            Err(error)
+        }
+    }
+}
+
 // One over a host with an empty log in this slot, where the accounts' last versions stand at these places.
 #[tactic(auto, using(crate::proofs::Alone::alone))]
 fn bench_over(
@@ -57,19 +69,30 @@ fn bench_over(
     requires slot { slot ≤ 1 }
     requires numbered { (g : AGrain) (p : APlace) → placed_in places g ≡ Some p → p.program < 1 }
 {
-    let shape = new_shape(alloc)?;
-    let core = new_core(alloc, limit)?;
-    let programs = new_programs(alloc)?;
-    let settler = Settler::new(
-        alloc,
-        slot,
-        15,
-        Ends::new(alloc),
-        quiet,
-        places,
-        programs,
-        SESSION,
-    )?;
+    let programs = match new_programs(alloc) {
+        Ok(programs) => programs,
+        Err(error) => {
+            drop(host);
+            drop(places);
+            return Err(error);
+        }
+    };
+    let ends = Ends::new(alloc);
+    let settler = match Settler::new(alloc, slot, 15, ends, quiet, places, programs, SESSION) {
+        Ok(settler) => settler,
+        Err(error) => {
+            drop(host);
+            return Err(error);
+        }
+    };
+    let (shape, core) = match new_opened(alloc, limit) {
+        Ok(opened) => opened,
+        Err(error) => {
+            drop(host);
+            drop(settler);
+            return Err(error);
+        }
+    };
     Ok(Bench {
         alloc,
         slot,
@@ -79,6 +102,33 @@ fn bench_over(
         settler,
         waiting: None,
     })
+}
+
+// This account's last version alone, which stands at that place and has this number.
+#[tactic(auto, using(crate::proofs::Alone::one_numbered))]
+fn one_place(alloc: Global, key: u32, place: Place, number: i64) -> Result<Places, AllocError>
+    ensures { IfOk result (λ places. (g : AGrain) (p : APlace) → placed_in places g ≡ Some p → p.program < 1) }
+{
+    let version = Version {
+        unit: UnitNo(1),
+        state: number_state(alloc, number)?,
+    };
+    let known = KnownVersion::of(&version);
+    drop(version);
+    let placed = Placed {
+        place,
+        program: 0,
+        is_new: false,
+        known,
+    };
+    let mut places = Places::new(alloc);
+    match places.put(account(key), placed) {
+        Ok(()) => Ok(places),
+        Err(error) => {
+            drop(places);
+            Err(error)
+        }
+    }
 }
 
 /// One over a new silo in this slot, 0 or 1, whose accounts are all 0. So many that aren't in use stay in memory; where that is 0 each
@@ -136,29 +186,22 @@ impl Bench {
 
     /// Another one with an empty log, where this account, alone in memory when it isn't in use, has its whole file as its last version,
     /// with this number, from before.
-    #[tactic(auto, using(crate::proofs::Alone::one_numbered))]
     pub fn reopened(&self, key: u32, number: i64) -> Result<Bench, AllocError> {
         let alloc = self.alloc;
         let file = self.file(key);
         let bytes = bytes_in(&self.host.inner, file);
-        let mut host = new_recorder(alloc, self.slot)?;
-        host.inner.set_file(file, bytes)?;
         let place = Place {
             offset: 0,
             len: bytes.len().min(4096) as u32,
         };
-        let version = Version {
-            unit: UnitNo(1),
-            state: number_state(alloc, number)?,
+        let places = one_place(alloc, key, place, number)?;
+        let host = match recorder_with(alloc, self.slot, file, bytes) {
+            Ok(host) => host,
+            Err(error) => {
+                drop(places);
+                return Err(error);
+            }
         };
-        let placed = Placed {
-            place,
-            program: 0,
-            is_new: false,
-            known: KnownVersion::of(&version),
-        };
-        let mut places = Places::new(alloc);
-        places.put(account(key), placed)?;
         bench_over(host, alloc, self.slot, false, 1, places)
     }
 

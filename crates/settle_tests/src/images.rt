@@ -37,7 +37,9 @@ fn words_after(
     requires { after ≤ calls_in host.now }
 {
     let image = host.crashed(after, pick)?;
-    words(alloc, bytes_in(&image, log), behind)
+    let words = words(alloc, bytes_in(&image, log), behind);
+    drop(image);
+    words
 }
 
 /// How many of the images that a crash may leave after so many calls, or within the next one, have a log that is allowed, by

@@ -1,5 +1,6 @@
 // A host in memory that notes each file's writes and syncs.
 ghost use Rattle.std.specs.Prelude.{◌-◌, ◌^◌, ◌≤◌, length, false, IsTrue};
+ghost use Rattle.host_trait.specs.Files.{HasSlot};
 ghost use Rattle.host_trait.specs.World.{empty_world, untold};
 ghost use Rattle.host_memory.specs.ShownState.{image_in, ready_in};
 
@@ -23,12 +24,38 @@ pub fn new_recorder(alloc: Global, slot: u8) -> Result<Recorder, AllocError>
     requires { slot ≤ 1 }
 {
     let mut inner = MemoryHost::new(alloc, &[])?;
-    inner.set_file(FileId::Manager { slot }, &NEW_LOG)?;
+    match inner.set_file(FileId::Manager { slot }, &NEW_LOG) {
+        Ok(()) => {}
+        Err(error) => {
+            drop(inner);
+            return Err(error);
+        }
+    }
     Ok(Recorder {
         inner,
         calls: Vec::new(alloc),
         part: None,
     })
+}
+
+// The same, where this file has these bytes.
+pub fn recorder_with(
+    alloc: Global,
+    slot: u8,
+    file: FileId,
+    bytes: &[u8],
+) -> Result<Recorder, AllocError>
+    requires slot { slot ≤ 1 }
+    requires file { HasSlot file }
+{
+    let mut host = new_recorder(alloc, slot)?;
+    match host.inner.set_file(file, bytes) {
+        Ok(()) => Ok(host),
+        Err(error) => {
+            drop(host);
+            Err(error)
+        }
+    }
 }
 
 // Notes a call. Where there is no memory for that it isn't made.

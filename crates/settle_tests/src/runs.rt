@@ -8,6 +8,7 @@ use host_memory::CallKind;
 use host_trait::{Channel, FileId};
 use settle_loop::{StopCause, Turned};
 use std::alloc::{AllocError, Global};
+use std::mem;
 use test_cases::{Numbers, natural, short, three_numbers};
 
 /// A bench, and what is said to the line that it carried last.
@@ -103,7 +104,13 @@ impl Run {
 
     fn open(&mut self, quiet: bool, second: bool, limit: i64) -> Result<(), AllocError> {
         let slot = if second { 1 } else { 0 };
-        self.bench = new_bench(self.alloc, slot, quiet, natural(limit) as usize)?;
+        let bench = new_bench(self.alloc, slot, quiet, natural(limit) as usize)?;
+        self.begin(bench)
+    }
+
+    // Goes on with this bench.
+    fn begin(&mut self, bench: Bench) -> Result<(), AllocError> {
+        drop(mem::replace(&mut self.bench, bench));
         self.said.push_str("opened")
     }
 
@@ -162,8 +169,8 @@ impl Run {
     }
 
     fn reopen(&mut self, key: u32, number: i64) -> Result<(), AllocError> {
-        self.bench = self.bench.reopened(key, number)?;
-        self.said.push_str("opened")
+        let bench = self.bench.reopened(key, number)?;
+        self.begin(bench)
     }
 
     fn add(&mut self, numbers: Numbers) -> Result<(), AllocError> {

@@ -12,6 +12,7 @@ use history_core::{Core, Opening};
 use program_file::accept;
 use script_check::Checked;
 use std::alloc::{AllocError, Global};
+use std::mem;
 use std::num::NonZeroUsize;
 
 /// An account.
@@ -51,8 +52,14 @@ pub fn new_programs(alloc: Global) -> Result<List<Checked>, AllocError>
         return Err(AllocError);
     };
     let mut programs = List::new(alloc);
-    programs.push(program)?;
-    Ok(programs)
+    match programs.push(program) {
+        Ok(()) => Ok(programs),
+        Err(failed) => {
+            drop(failed);
+            drop(programs);
+            Err(AllocError)
+        }
+    }
 }
 
 // The accounts that were used last, of which there are at most so many: none yet.
@@ -67,8 +74,14 @@ fn recent_of(alloc: Global, limit: usize) -> Result<Option<Recent>, AllocError>
 
 /// Its core, whose next unit is 1. So many accounts that aren't in use stay in memory; where that is 0 each one is there from the first.
 pub fn new_core(alloc: Global, limit: usize) -> Result<Core, AllocError> {
-    let shape = new_shape(alloc)?;
     let recent = recent_of(alloc, limit)?;
+    let shape = match new_shape(alloc) {
+        Ok(shape) => shape,
+        Err(error) => {
+            drop(recent);
+            return Err(error);
+        }
+    };
     Ok(Core::new(
         alloc,
         Opening {
@@ -84,8 +97,22 @@ pub fn new_core(alloc: Global, limit: usize) -> Result<Core, AllocError> {
 fn put(core: &mut Core, event: CoreEvent) -> Result<CoreReply, AllocError> {
     match core.step(event) {
         Ok(reply) => Ok(reply),
-        Err((error, _back)) => Err(error),
+        Err((error, back)) => {
+            drop(back);
+            Err(error)
+        }
     }
+}
+
+// Puts an event that is answered by no more than whether it applies.
+fn put_plain(core: &mut Core, event: CoreEvent) -> Result<bool, AllocError> {
+    let reply = put(core, event)?;
+    let is_done = match &reply {
+        CoreReply::Done => true,
+        _ => false,
+    };
+    drop(reply);
+    Ok(is_done)
 }
 
 // A call that adds a number to an account.
@@ -118,10 +145,13 @@ fn begin(
         call: call_on(alloc, add)?,
         plain: false,
     };
-    match put(core, event)? {
-        CoreReply::Began { unit } => Ok(Some(unit)),
-        _ => Ok(None),
-    }
+    let reply = put(core, event)?;
+    let unit = match &reply {
+        CoreReply::Began { unit } => Some(*unit),
+        _ => None,
+    };
+    drop(reply);
+    Ok(unit)
 }
 
 // Locks an account; none where it isn't granted.
@@ -133,7 +163,10 @@ fn grant(core: &mut Core, unit: UnitNo, grain: GrainId) -> Result<Option<Read>, 
             state,
             source,
         })),
-        _ => Ok(None),
+        reply => {
+            drop(reply);
+            Ok(None)
+        }
     }
 }
 
@@ -161,7 +194,7 @@ fn empty_effect(alloc: Global, line: u32, unit: UnitNo, call: Call) -> Effect {
 fn make(alloc: Global, effect: &mut Effect, add: Add, read: Read) -> Result<(), AllocError> {
     let number = number_in(&read).wrapping_add(add.number);
     if effect.reads.is_empty() {
-        effect.result = Outcome::Value(Value::Int(number));
+        drop(mem::replace(&mut effect.result, Outcome::Value(Value::Int(number))));
     }
     effect.reads.push(read)?;
     if add.number != 0 {
@@ -187,25 +220,16 @@ fn make_all(
     Ok(true)
 }
 
-fn is_done(reply: &CoreReply) -> bool {
-    match reply {
-        CoreReply::Done => true,
-        _ => false,
-    }
-}
-
 // The unit ends.
 fn finish(core: &mut Core, effect: Effect) -> Result<bool, AllocError> {
     let unit = effect.unit;
-    let reply = put(core, CoreEvent::Finish { unit, effect })?;
-    Ok(is_done(&reply))
+    put_plain(core, CoreEvent::Finish { unit, effect })
 }
 
 fn release_all(core: &mut Core, unit: UnitNo, adds: &[Add]) -> Result<bool, AllocError> {
     for add in adds {
         let grain = account(add.key);
-        let reply = put(core, CoreEvent::Release { unit, grain })?;
-        if !is_done(&reply) {
+        if !put_plain(core, CoreEvent::Release { unit, grain })? {
             return Ok(false);
         }
     }
@@ -220,10 +244,14 @@ fn run(
     adds: &[Add],
 ) -> Result<bool, AllocError> {
     let unit = effect.unit;
-    if !make_all(alloc, core, &mut effect, adds)? || !finish(core, effect)? {
-        return Ok(false);
+    match make_all(alloc, core, &mut effect, adds) {
+        Ok(true) => {}
+        made => {
+            drop(effect);
+            return made;
+        }
     }
-    release_all(core, unit, adds)
+    Ok(finish(core, effect)? && release_all(core, unit, adds)?)
 }
 
 /// The next line's unit makes these additions, and ends. It is called for the first of them. Whether each event applied.
@@ -262,11 +290,35 @@ pub fn want(
         return Ok(None);
     };
     let grain = account(first.key);
-    let reply = put(core, CoreEvent::Want { unit, grain })?;
-    if !is_done(&reply) {
+    if !put_plain(core, CoreEvent::Want { unit, grain })? {
         return Ok(None);
     }
     Ok(Some(Waiting { unit, line, first }))
+}
+
+// What the unit of a line did that made this addition alone.
+fn added(
+    alloc: Global,
+    line: u32,
+    unit: UnitNo,
+    first: Add,
+    read: Read,
+) -> Result<Effect, AllocError> {
+    let call = match call_on(alloc, first) {
+        Ok(call) => call,
+        Err(error) => {
+            drop(read);
+            return Err(error);
+        }
+    };
+    let mut effect = empty_effect(alloc, line, unit, call);
+    match make(alloc, &mut effect, first, read) {
+        Ok(()) => Ok(effect),
+        Err(error) => {
+            drop(effect);
+            Err(error)
+        }
+    }
 }
 
 /// A unit that waited makes its addition, and ends. Whose version it added to; none where an event doesn't apply.
@@ -280,8 +332,7 @@ pub fn go_on(
         return Ok(None);
     };
     let source = read.source;
-    let mut effect = empty_effect(alloc, line, unit, call_on(alloc, first)?);
-    make(alloc, &mut effect, first, read)?;
+    let effect = added(alloc, line, unit, first, read)?;
     if !finish(core, effect)? || !release_all(core, unit, &[first])? {
         return Ok(None);
     }

@@ -10,4 +10,4 @@ pub returns-in-Ok : goal.returns-in-Ok
 returns-in-Ok c =
     let settling : is_settling c.in-Some.event ≡ true = search (c.in-Some.is, c.in_ok-next_settling.ensures, rules) in
     settles-carried (program_tree c.args.checked.now) none_comes (own_sight (run_of c.args.self.now.core.core)) (own_sight (run_of c.put.new.self))
-    c.in-Some.event c.in-Ok._reply c.args.self.now.agents.list.items c.in-Ok.ensures.put settling c.requires
+    c.in-Some.event c.in-Ok.reply c.args.self.now.agents.list.items c.in-Ok.ensures.put settling c.requires
