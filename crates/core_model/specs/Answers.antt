@@ -1,5 +1,5 @@
 -- The answers to questions.
-use Rattle.std.specs.Prelude.{◌+◌, List, [], ◌∷◌, ◌||◌, not, Option, Some, None, filter, map, is_some, slice_get, flat_map, option_map}
+use Rattle.std.specs.Prelude.{◌+◌, List, [], ◌∷◌, ◌||◌, Option, Some, None, filter, map, is_some, slice_get, flat_map, option_map}
 use Rattle.core_model.specs.declared.questions.CoreQuestion.{CoreQuestion}
 use Rattle.core_model.specs.declared.questions.CoreQuestion.TheVariants as question
 use Rattle.core_model.specs.declared.questions.CoreAnswer.{CoreAnswer}
@@ -8,7 +8,7 @@ use Rattle.core_model.specs.declared.questions.KnownOutcome.{KnownOutcome}
 use Rattle.core_model.specs.declared.questions.KnownOutcome.TheVariants.{Undecided, Decided}
 use Rattle.core_model.specs.declared.questions.BatchView.{BatchView}
 use Rattle.cell_model.specs.Sources.{with_source}
-use Rattle.core_model.specs.CoreState.{UnitNo, GrainId, Outcome, Batch, CoreState}
+use Rattle.core_model.specs.CoreState.{UnitNo, Outcome, Batch, CoreState}
 use Rattle.core_model.specs.Tests.{is_aborted, is_decided, outcome_of, ask_answer, members}
 pub use Rattle.core_model.specs.Effects.{effect_of}
 pub use Rattle.core_model.specs.LearnQueue.{next_learn}

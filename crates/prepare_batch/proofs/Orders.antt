@@ -1,5 +1,5 @@
 -- Pieces, sorted by their grains without changing the order of one grain's, are those of `by_grain`.
-use Rattle.std.proofs.Common.{◌≡◌, inl, inr, true, if◌then◌else◌, List, [], ◌∷◌, map, refl, sym, ◌∙◌, subst}
+use Rattle.std.proofs.Common.{◌≡◌, inl, inr, if◌then◌else◌, List, [], ◌∷◌, map, refl, sym, ◌∙◌, subst}
 use Rattle.std.specs.List.{AllByRecursion}
 use Rattle.std.specs.List.Sorted.{IsSortedByKey, IsStableByKey}
 use Rattle.std.proofs.lemmas.Bool.{cond_both, false≢true}

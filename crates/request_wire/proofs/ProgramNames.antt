@@ -1,11 +1,10 @@
 -- The types and methods that a program names.
 use Rattle.std.proofs.Common.{◌≡◌, ℕ, suc, ◌+◌, ◌<◌, ◌≤◌, Bool, true, false, List, length, drop, map, refl, sym, ap, ◌∙◌, subst, Option, Some, None, get_or, option_map, add-one, drop-cons}
 use Rattle.std.specs.Prelude.{slice_get, bytes_eq, if◌then◌else◌}
-use Rattle.std.specs.List.{All}
 use Rattle.std.proofs.lemmas.Option.{slice_get-map, slice_get_within, get_or_from_slice_get}
 use Rattle.script_tree.specs.declared.programs.TypeDecl.{TypeDecl}
 use Rattle.script_tree.specs.Programs.{TypeTree, type_tree, method_tree}
-use Rattle.script_check.specs.AcceptedPrograms.{IsAcceptedType, IsAcceptedProgram}
+use Rattle.script_check.specs.AcceptedPrograms.{IsAcceptedProgram}
 use Rattle.request_wire.specs.Names.{TypeNames, type_names, method_names, names_in, named}
 use Rattle.request_wire.specs.Request.{method_of}
 
