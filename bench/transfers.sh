@@ -20,7 +20,7 @@
 top=$(cd "$(dirname "${BASH_SOURCE[0]}")/.." && pwd)
 [ -n "${SILO:-}" ] || "$top/silo" </dev/null >/dev/null 2>&1
 exec python3 - "$top" "${SILO:-$top/crates/silo/out/silo}" "$@" <<'END'
-import os, resource, struct, subprocess, sys, tempfile, time
+import os, resource, subprocess, sys, tempfile, time
 
 top, program, count, width = sys.argv[1], sys.argv[2], int(sys.argv[3]), sys.argv[4]
 place = sys.argv[5] if len(sys.argv) > 5 else "/tmp"
@@ -61,15 +61,14 @@ with tempfile.TemporaryDirectory(dir=place) as room:
     with open(os.path.join(folder, "manager-0.otx"), "rb") as file:
         manager = file.read()
     with open(os.path.join(folder, "program-0.otx"), "rb") as file:
-        types = read.types_of(file.read()[4:].decode())
-    batches, syncs, gate = 0, 1, 15
-    while manager[gate] == 1:
-        [size] = struct.unpack_from("<I", manager, gate + 1)
-        body = read.Bytes("manager-0.otx", manager, gate + 5, gate + 5 + size)
-        grains = set()
-        for _ in range(body.number("I")):
-            grains.update(grain for grain, _, _ in read.record_of(body, types)[2])
-        batches, syncs, gate = batches + 1, syncs + len(grains) + 2, gate + 5 + size
+        types = read.types_of(file.read()[4:])
+    batches, syncs = 0, 1
+    for is_block, body in read.bodies_of("manager-0.otx", manager, read.FORMATS[manager[1:9]]):
+        if is_block:
+            body.session(lambda session: session > 0)
+            records = [read.record_of(body, types) for _ in range(body.number("I"))]
+            grains = {grain for _, _, writes in records for grain, _, _ in writes}
+            batches, syncs = batches + 1, syncs + len(grains) + 2
     appended = os.open(os.path.join(folder, "appended"), os.O_WRONLY | os.O_CREAT | os.O_APPEND)
     piece = bytes(4096)
     begun = time.monotonic()
