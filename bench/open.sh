@@ -13,7 +13,7 @@ bench=$folder/crates/open_bench
 mkdir -p "$bench/src" || exit 1
 (cd "$top" && tar cf - --exclude=out crates) | tar xf - -C "$folder" || exit 1
 needs=$(sed -n 's/^silo_opening: //p' "$top/crates.txt")
-{ cat "$top/crates.txt"; echo "open_bench: $needs silo_opening host_files"; } >"$folder/crates.txt"
+{ cat "$top/crates.txt"; echo "open_bench: $needs silo_opening system_calls host_files"; } >"$folder/crates.txt"
 
 # Each folder, by docs/FORMATS.md: record r is unit r, a deposit of 5 on account r modulo 64.
 PYTHONPATH=$top/checks python3 - "$bench" $sizes <<'END' || exit 1
@@ -56,6 +56,7 @@ use grain_log::read_named;
 use host_files::FolderHost;
 use host_trait::{FileId, Host, read_full};
 use silo_opening::open_silo;
+use system_calls::Linux;
 use std::alloc::Global;
 use std::io::{self, ErrorKind};
 use std::fs;
@@ -90,7 +91,7 @@ fn one_by_one<H: Host>(alloc: Global, host: &mut H, shape: &Shape, records: u64)
             let first = if key == 0 { 64 } else { key as u64 };
             let unit = Some(UnitNo(at.wrapping_mul(64).wrapping_add(first)));
             let place = Place { offset: at.wrapping_mul(19), len: 19 };
-            if read_named(alloc, host, FileId::Grain { slot: 0, grain: GrainId { kind: 0, key } }, unit, place, shape, Format::One).is_err() {
+            if read_named(alloc, host, FileId::Grain { slot: 0, grain: GrainId { kind: 0, key } }, unit, place, shape, Format::Two).is_err() {
                 return Err(ErrorKind::InvalidData.into());
             }
             seen = 1u64.wrapping_add(seen);
@@ -103,7 +104,7 @@ fn decode(alloc: Global, bytes: &[u8]) -> io::Result<Version> {
     let Ok((unit, after)) = get_u64(bytes, 0) else {
         return Err(ErrorKind::InvalidData.into());
     };
-    let Ok((values, _)) = get_exactly(alloc, bytes, after, 16, 1, Format::One) else {
+    let Ok((values, _)) = get_exactly(alloc, bytes, after, 64, 1, Format::Two) else {
         return Err(ErrorKind::InvalidData.into());
     };
     Ok(Version { unit: UnitNo(unit), state: State::from_list(values) })
@@ -132,7 +133,8 @@ fn in_one_piece<H: Host>(alloc: Global, host: &mut H, records: u64) -> io::Resul
 
 fn opening(rt: &HostRuntime, folder: &str, records: u64) -> io::Result<()> {
     let alloc = rt.alloc();
-    let mut host = FolderHost::new(alloc, rt, rt.reader(), io::writer(rt), folder)?;
+    let linux = Linux::new(rt, rt.reader(), io::writer(rt));
+    let mut host = FolderHost::new(alloc, linux, folder)?;
     let reads_before = reads(rt)?;
     let reads_of_asking = reads(rt)?.wrapping_sub(reads_before);
     let reads_before = reads(rt)?;
