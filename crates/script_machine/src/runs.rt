@@ -125,12 +125,7 @@ impl Run {
         ensures less { OnOk result (size self.new ≤ size self.old + 1) }
     {
         match stmt {
-            Stmt::Let { name, .. } => {
-                assign(&mut self.top.locals, &name.text, value)?;
-                self.top.at += 1;
-                Ok(())
-            }
-            Stmt::Assign { name, .. } => {
+            Stmt::Let { name, .. } | Stmt::Assign { name, .. } => {
                 assign(&mut self.top.locals, &name.text, value)?;
                 self.top.at += 1;
                 Ok(())
@@ -140,32 +135,12 @@ impl Run {
                 self.go_into(checked, stmt, Part::First)?;
                 Ok(())
             }
-            Stmt::Set { .. } => {
-                drop(value);
-                self.top.at += 1;
-                Ok(())
-            }
-            Stmt::Call { .. } => {
-                drop(value);
-                self.top.at += 1;
-                Ok(())
-            }
-            Stmt::If { .. } => {
-                drop(value);
-                self.top.at += 1;
-                Ok(())
-            }
-            Stmt::While { .. } => {
-                drop(value);
-                self.top.at += 1;
-                Ok(())
-            }
-            Stmt::Return { .. } => {
-                drop(value);
-                self.top.at += 1;
-                Ok(())
-            }
-            Stmt::Fail { .. } => {
+            Stmt::Set { .. }
+            | Stmt::Call { .. }
+            | Stmt::If { .. }
+            | Stmt::While { .. }
+            | Stmt::Return { .. }
+            | Stmt::Fail { .. } => {
                 drop(value);
                 self.top.at += 1;
                 Ok(())

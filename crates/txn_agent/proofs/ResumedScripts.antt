@@ -25,7 +25,7 @@ use Rattle.script_machine.specs.declared.machine.Input.{Input}
 use Rattle.script_machine.specs.declared.machine.Input.TheVariants as input
 use Rattle.script_machine.specs.declared.machine.Pause.{Pause}
 use Rattle.script_machine.specs.declared.machine.Pause.TheVariants.{NeedGrain}
-use Rattle.script_machine.specs.Machines.{AnswersRequest, FollowsTrail, asks_raise, given_by, has_begun, rest}
+use Rattle.script_machine.specs.Machines.{FollowsTrail, asks_raise, given_by, rest}
 use Rattle.base_types.specs.Origins.{depth_of}
 use Rattle.promise_spec.specs.UnitAnswers.{given_by as given_in}
 use Rattle.turn_rules.proofs.AgentLinks.{heard}
@@ -68,10 +68,6 @@ ready-now types work work' one pause r = record { asks_for = r.asks_for; over = 
 
 -- ---- a first lock
 
-pub fits_first : (types : ProgramTree) (s : Sight) (c : Carried) (work : Work) (g : GrainId) (mode : Mode) (state : List Value) → KnowsPaused types s c work (NeedGrain g mode) → asks_raise (rest types work.machine) ≡ false →
-    (has_begun work.machine ≡ true) × AnswersRequest (rest types work.machine) (input.Grain state)
-fits_first types s c work g mode state k first = (k.at_work.started, (first-answer (rest types work.machine) g mode state k.ready.asks_for first).1)
-
 pub first_known : (may : CoreEvent → Bool) (types : ProgramTree) (s t : Sight) (c : Carried) (work work' : Work) (g : GrainId) (mode : Mode) (state : List Value) (source : UnitNo) (pause : Pause) (y : CoreReply) →
     Counts s → KnowsPaused types s c work (NeedGrain g mode) → Tells may s (Grant c.unit g mode) y t → y ≡ reply.Granted state source → asks_raise (rest types work.machine) ≡ false →
     work'.call ≡ work.call → work'.held ≡ work.held ++ (g ∷ []) → work'.sources ≡ work.sources ++ (source ∷ []) → work'.kids ≡ work.kids →
@@ -95,10 +91,6 @@ first_known may types s t c work work' g mode state source pause y counts k l is
     }
 
 -- ---- an exclusive lock in place of a shared one
-
-pub fits_again : (types : ProgramTree) (s : Sight) (c : Carried) (work : Work) (g : GrainId) (mode : Mode) → KnowsPaused types s c work (NeedGrain g mode) → asks_raise (rest types work.machine) ≡ true →
-    (has_begun work.machine ≡ true) × AnswersRequest (rest types work.machine) input.Held
-fits_again types s c work g mode k again = (k.at_work.started, (raise-answer (rest types work.machine) g mode k.ready.asks_for again).1)
 
 pub again_known : (may : CoreEvent → Bool) (types : ProgramTree) (s t : Sight) (c : Carried) (work work' : Work) (g : GrainId) (mode : Mode) (state : List Value) (source : UnitNo) (pause : Pause) (y : CoreReply) →
     Counts s → KnowsPaused types s c work (NeedGrain g mode) → Tells may s (Grant c.unit g mode) y t → y ≡ reply.Granted state source → asks_raise (rest types work.machine) ≡ true →
@@ -130,9 +122,6 @@ known-some (Some p) o e = (let a : p ≡ o = cc in ap Some a)
 pub known_none : (k : Option Outcome) → Undecided ≡ known k → k ≡ None
 known_none None e = refl
 known_none (Some o) e = absurd cc
-
-pub fits_heard : (types : ProgramTree) (s : Sight) (c : Carried) (work : Work) (child : UnitNo) (o : Outcome) → KnowsWaiting types s c work child → (has_begun work.machine ≡ true) × AnswersRequest (rest types work.machine) (input.Unit o)
-fits_heard types s c work child o k = (k.at_work.started, (unit-answer (rest types work.machine) k.call k.depth o k.asks_for).1)
 
 pub heard_known : (may : CoreEvent → Bool) (types : ProgramTree) (s t : Sight) (c : Carried) (work work' : Work) (child : UnitNo) (o : Outcome) (pause : Pause) →
     Counts s → KnowsWaiting types s c work child → Looks may s t → Decided o ≡ known (outcome_of (ends (run_seen t)) child) →
