@@ -1,6 +1,7 @@
 pub mod Sizes
 pub mod FramePlaces
 pub mod Steps
+pub mod Stops
 pub mod OpenBlocks
 pub mod Entries
 pub mod PartCounts

@@ -43,6 +43,14 @@ none_at (suc left) next locals has none = absurd (grind (arith, none))
 pub no_step : (next : Next) (locals : Locals) (has : Holding) → false ≡ nat_lt 0 has.left → takes_step next locals has ≡ stop budget has
 no_step next locals has none = none_at has.left next locals has none
 
+-- and where none is left, none is taken
+left_same : (left : ℕ) (has : Holding) → false ≡ nat_lt 0 left → left ≡ left - 1
+left_same zero has none = refl
+left_same (suc left) has none = absurd (grind (arith, none))
+
+pub none_taken : (has then_has : Holding) → false ≡ nat_lt 0 has.left → then_has ≡ with_left (has.left - 1) has → has ≡ then_has
+none_taken has then_has none taken = ap (λ n. with_left n has) (left_same has.left has none) ∙ sym taken
+
 -- the test of a loop
 abbrev pub loop_test : StmtTree → Option ExprTree
 loop_test (Repeat test block) = Some test
@@ -82,3 +90,16 @@ module _ (types : ProgramTree) (post : Post) (back : Back) where
   turn_again (Give value) test e next locals has then_has there taken = absurd (no_loop test e)
   turn_again (FailWith text) test e next locals has then_has there taken = absurd (no_loop test e)
   turn_again (Try at name call block other) test e next locals has then_has there taken = absurd (no_loop test e)
+
+  -- or no step is left for it
+  pub turn_stops : (stmt : StmtTree) (test : ExprTree) → loop_test stmt ≡ Some test → (next : Next) (locals : Locals) (has : Holding) → false ≡ nat_lt 0 has.left →
+      outer types (runner_of types post) (site_of types post) back (Some stmt) next locals has ≡ stop budget has
+  turn_stops (Repeat one block) test e next locals has none = while_once types (depth_limit - post.depth) (site_of types post) back one block next locals has ∙ no_step _ locals has none
+  turn_stops (Bind name value) test e next locals has none = absurd (no_loop test e)
+  turn_stops (Rebind name value) test e next locals has none = absurd (no_loop test e)
+  turn_stops (SetField name value) test e next locals has none = absurd (no_loop test e)
+  turn_stops (Perform call) test e next locals has none = absurd (no_loop test e)
+  turn_stops (Choose one block other) test e next locals has none = absurd (no_loop test e)
+  turn_stops (Give value) test e next locals has none = absurd (no_loop test e)
+  turn_stops (FailWith text) test e next locals has none = absurd (no_loop test e)
+  turn_stops (Try at name call block other) test e next locals has none = absurd (no_loop test e)

@@ -14,7 +14,7 @@ use crate::runs::{Onward, Run};
 use base_types::Value;
 use script_check::Checked;
 use script_tree::{Expr, Stmt};
-use script_values::{Reason, Stop, fault_of, is_true};
+use script_values::{Reason, Stop, is_true, stop_at};
 use std::alloc::{AllocError, Global};
 
 impl Run {
@@ -47,7 +47,7 @@ impl Run {
             Value::Int(number) => Ok(is_true(number)),
             Value::Text(text) => {
                 drop(text);
-                Err(Stop::Fault(fault_of(alloc, Reason::Kind)?))
+                Err(stop_at(alloc, Reason::Kind))
             }
         }
     }
@@ -111,18 +111,18 @@ impl Run {
         match stmt {
             Stmt::While { test, body: _ } => {
                 if !self.has.take_step() {
-                    return Err(Stop::Fault(fault_of(alloc, Reason::Budget)?));
+                    return Err(stop_at(alloc, Reason::Budget));
                 }
                 self.turn(alloc, checked, stmt, test)
             }
-            Stmt::Let { .. } => Ok(self.past()),
-            Stmt::Assign { .. } => Ok(self.past()),
-            Stmt::Set { .. } => Ok(self.past()),
-            Stmt::Call { .. } => Ok(self.past()),
-            Stmt::If { .. } => Ok(self.past()),
-            Stmt::Return { .. } => Ok(self.past()),
-            Stmt::Fail { .. } => Ok(self.past()),
-            Stmt::Attempt { .. } => Ok(self.past()),
+            Stmt::Let { .. }
+            | Stmt::Assign { .. }
+            | Stmt::Set { .. }
+            | Stmt::Call { .. }
+            | Stmt::If { .. }
+            | Stmt::Return { .. }
+            | Stmt::Fail { .. }
+            | Stmt::Attempt { .. } => Ok(self.past()),
         }
     }
 

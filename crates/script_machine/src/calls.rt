@@ -1,7 +1,6 @@
 // How a frame calls, by the rules of its own kind and of the method that is called.
 ghost use Rattle.std.specs.Prelude.{◌≡◌, ◌<◌, ◌≤◌, ◌+◌, IfOk, OnOk, Some, map};
 ghost use Rattle.script_tree.specs.Exprs.{call_tree, expr_tree};
-ghost use Rattle.script_tree.specs.Stmts.{stmt_tree};
 ghost use Rattle.script_tree.specs.Programs.{ProgramTree, program_tree};
 ghost use Rattle.script_values.specs.Expressions.{values_in};
 ghost use Rattle.script_values.specs.Stops.{GivesOrStops};
@@ -9,7 +8,7 @@ ghost use Rattle.script_holding.specs.Holding.{Holding as Has};
 ghost use Rattle.script_meaning.specs.Calls.{in_own_unit, to_target, to_type, type_from};
 ghost use Rattle.script_machine.specs.Callees.{IsThere, post_of, target_of};
 ghost use Rattle.script_machine.specs.Frames.{begins, goes_on, runner_of, site_of};
-ghost use Rattle.script_machine.specs.Runs.{AllowsDepth, GivesKey, Goes, Shrinks, StandsAt, around_here, back_here, back_of, call_in, calls_here, caught_here, does_here, size};
+ghost use Rattle.script_machine.specs.Runs.{AllowsDepth, GivesKey, Goes, Shrinks, around_here, back_here, back_of, calls_here, caught_here, size};
 
 use crate::callees::{Callee, callee_named, type_named};
 use crate::frames::{Frame, Post};
@@ -17,8 +16,8 @@ use crate::runs::{Flow, Run, Wait};
 use base_types::{Call, GrainId, List, Value};
 use script_check::Checked;
 use script_holding::DEPTH_LIMIT;
-use script_tree::{CallExpr, Expr, MethodKind, Stmt};
-use script_values::{Reason, Stop, evaluate_all, fault_of, refusal};
+use script_tree::{CallExpr, Expr, MethodKind};
+use script_values::{Reason, Stop, evaluate_all, refusal, stop_at};
 use std::alloc::{AllocError, Global};
 use std::mem;
 use txn_options::{Entered, enter};
@@ -30,11 +29,11 @@ fn key_of(alloc: Global, place: Value) -> Result<u32, Stop>
     match place {
         Value::Text(text) => {
             drop(text);
-            Err(Stop::Fault(fault_of(alloc, Reason::Kind)?))
+            Err(stop_at(alloc, Reason::Kind))
         }
         Value::Int(number) => match u32::try_from(number) {
             Ok(key) => Ok(key),
-            Err(_) => Err(Stop::Fault(fault_of(alloc, Reason::Key)?)),
+            Err(_) => Err(stop_at(alloc, Reason::Key)),
         },
     }
 }
@@ -48,24 +47,8 @@ impl Run {
         evaluate_all(alloc, args, &scope)
     }
 
-    /// A call at the statement at which the topmost frame stands, once the step is taken.
-    pub fn call(
-        &mut self,
-        alloc: Global,
-        checked: &Checked,
-        stmt: &Stmt,
-        call: &CallExpr,
-    ) -> Result<Flow, Stop>
-        requires here { StandsAt (program_tree checked.now) self.old (stmt_tree stmt.now) }
-        requires call { call_in (stmt_tree stmt.now) ≡ Some (call_tree call.now) }
-        ensures tree { Goes (does_here (program_tree checked.now) self.old (stmt_tree stmt.now)) (program_tree checked.now) self.new result }
-        ensures less { IfOk result (Shrinks (size self.old + 4) self.new) }
-    {
-        self.call_out(alloc, checked, call)
-    }
-
-    /// A call from the topmost frame.
-    fn call_out(&mut self, alloc: Global, checked: &Checked, call: &CallExpr) -> Result<Flow, Stop>
+    /// A call from the topmost frame, once the step is taken.
+    pub fn call(&mut self, alloc: Global, checked: &Checked, call: &CallExpr) -> Result<Flow, Stop>
         ensures tree { Goes (calls_here (program_tree checked.now) self.old (call_tree call.now) (back_here (program_tree checked.now) self.old)
             (caught_here (program_tree checked.now) self.old)) (program_tree checked.now) self.new result }
         ensures less { IfOk result (Shrinks (size self.old + 4) self.new) }
@@ -93,11 +76,11 @@ impl Run {
     {
         let Some(kind) = type_named(checked, &call.target.text) else {
             drop(args);
-            return Err(Stop::Fault(fault_of(alloc, Reason::Unknown)?));
+            return Err(stop_at(alloc, Reason::Unknown));
         };
         let Some(callee) = callee_named(checked, GrainId { kind, key }, &call.method.text) else {
             drop(args);
-            return Err(Stop::Fault(fault_of(alloc, Reason::Unknown)?));
+            return Err(stop_at(alloc, Reason::Unknown));
         };
         self.enter(alloc, checked, &callee, args)
     }
@@ -119,7 +102,7 @@ impl Run {
         match enter(callee.method.option, self.top.post.context) {
             Entered::Refused(why) => {
                 drop(args);
-                Err(Stop::Fault(fault_of(alloc, refusal(why))?))
+                Err(stop_at(alloc, refusal(why)))
             }
             Entered::NewUnit => {
                 self.goes_deeper(alloc)?;
@@ -143,13 +126,12 @@ impl Run {
         ensures { AllowsDepth result self.now.top.post.depth }
     {
         if self.top.post.depth >= DEPTH_LIMIT {
-            return Err(Stop::Fault(fault_of(alloc, Reason::Depth)?));
+            return Err(stop_at(alloc, Reason::Depth));
         }
         Ok(())
     }
 
     /// Opens a frame above the topmost one.
-    #[tactic(auto, using(crate::proofs::Sizes::sizes_push))]
     fn open(
         &mut self,
         alloc: Global,
@@ -195,7 +177,7 @@ impl Run {
     {
         if !self.has.ask_unit() {
             drop(args);
-            return Err(Stop::Fault(fault_of(alloc, Reason::Units)?));
+            return Err(stop_at(alloc, Reason::Units));
         }
         let call = Call {
             grain: callee.grain,

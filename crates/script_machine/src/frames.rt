@@ -14,14 +14,14 @@ use script_values::{FrameLocals, Local};
 use std::alloc::{AllocError, Global};
 
 /// Which of a statement's blocks.
-#[derive(Clone, Copy, Debug, PartialEq, Eq)]
+#[derive(Clone, Copy)]
 pub enum Part {
     First,
     Second,
 }
 
 /// An open block: the number of its statement in the block around it, and which of the statement's blocks it is.
-#[derive(Clone, Copy, Debug, PartialEq, Eq)]
+#[derive(Clone, Copy)]
 pub struct OpenBlock {
     pub at: usize,
     pub part: Part,
@@ -29,7 +29,7 @@ pub struct OpenBlock {
 
 /// Where a frame runs: its grain, the number of its method, what it does with the grain's fields, whether it has
 /// a transaction's context, and its depth.
-#[derive(Clone, Copy, Debug, PartialEq, Eq)]
+#[derive(Clone, Copy)]
 pub struct Post {
     pub grain: GrainId,
     pub method: u16,
@@ -78,12 +78,12 @@ fn part_of(stmt: &Stmt, part: Part) -> &[Stmt]
             Part::First => then.as_slice(),
             Part::Second => other.as_slice(),
         },
-        Stmt::Let { .. } => &[],
-        Stmt::Assign { .. } => &[],
-        Stmt::Set { .. } => &[],
-        Stmt::Call { .. } => &[],
-        Stmt::Return { .. } => &[],
-        Stmt::Fail { .. } => &[],
+        Stmt::Let { .. }
+        | Stmt::Assign { .. }
+        | Stmt::Set { .. }
+        | Stmt::Call { .. }
+        | Stmt::Return { .. }
+        | Stmt::Fail { .. } => &[],
     }
 }
 

@@ -28,8 +28,7 @@ impl Run {
     {
         let fields = fields_at(checked, grain.kind);
         self.has.lock(grain, mode, fields, found)?;
-        self.go(alloc, checked)?;
-        Ok(())
+        self.go(alloc, checked)
     }
 
     /// Goes on with a grain whose lock became exclusive.
@@ -42,8 +41,7 @@ impl Run {
         ensures { OnOk result (with_raise (program_tree checked.now) self.old grain ≡ rest_of_run (program_tree checked.now) self.new) }
     {
         self.has.raise(grain);
-        self.go(alloc, checked)?;
-        Ok(())
+        self.go(alloc, checked)
     }
 
     /// Goes on with the outcome of a unit of its own.
@@ -75,8 +73,7 @@ impl Run {
         ensures { OnOk result (back_here (program_tree checked.now) self.old value self.old.has ≡ rest_of_run (program_tree checked.now) self.new) }
     {
         self.receive(checked, value)?;
-        self.go(alloc, checked)?;
-        Ok(())
+        self.go(alloc, checked)
     }
 
     fn feed_fault(&mut self, alloc: Global, checked: &Checked, text: Text) -> Result<(), AllocError>
@@ -97,9 +94,7 @@ impl Run {
     {
         match &self.wait {
             Wait::Raise { .. } => true,
-            Wait::Lock { .. } => false,
-            Wait::Child { .. } => false,
-            Wait::Over { .. } => false,
+            Wait::Lock { .. } | Wait::Child { .. } | Wait::Over { .. } => false,
         }
     }
 

@@ -9,7 +9,7 @@ ghost use Rattle.script_machine.specs.Runs.{Goes, Shrinks, back_of, size};
 use crate::runs::{Flow, Run, Wait};
 use base_types::{GrainId, Mode};
 use script_tree::MethodKind;
-use script_values::{Reason, Stop, fault_of};
+use script_values::{Reason, Stop, stop_at};
 use std::alloc::Global;
 use std::mem;
 
@@ -38,7 +38,7 @@ impl Run {
         match self.has.mode_of(grain) {
             None => {
                 if !self.has.has_room() {
-                    return Err(Stop::Fault(fault_of(alloc, Reason::Grains)?));
+                    return Err(stop_at(alloc, Reason::Grains));
                 }
                 drop(mem::replace(&mut self.wait, Wait::Lock { grain, mode }));
                 Ok(Flow::Paused)

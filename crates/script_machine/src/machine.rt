@@ -1,4 +1,4 @@
-ghost use Rattle.std.specs.Prelude.{◌≡◌, ◌++◌, [], false, true, List, ℕ, IfOk, OnOk, OnErr};
+ghost use Rattle.std.specs.Prelude.{◌≡◌, ◌++◌, ◌∷◌, [], false, true, if◌then◌else◌, is_ok, List, ℕ, IfOk, OnOk, OnErr};
 ghost use Rattle.base_types.specs.declared.calls.Call.{Call as Called};
 ghost use Rattle.base_types.specs.declared.calls.GrainId.{GrainId as Grain};
 ghost use Rattle.base_types.specs.declared.calls.Value.{Value as GrainValue};
@@ -56,6 +56,28 @@ pub struct Machine {
     answers: List<Outcome>,
     reads: List<(GrainId, State)>,
     writes: Vec<(GrainId, State)>,
+}
+
+/// One read more. Without memory the reads stay.
+fn note_read(
+    reads: &mut List<(GrainId, State)>,
+    grain: GrainId,
+    found: &State,
+) -> Result<(), AllocError>
+    ensures { reads.new ≡ (if is_ok result then reads.old ++ (grain, found.now) ∷ [] else reads.old) }
+{
+    let found = found.copy()?;
+    reads.push((grain, found))?;
+    Ok(())
+}
+
+/// One answer more. Without memory the answers stay.
+fn note_answer(answers: &mut List<Outcome>, outcome: &Outcome) -> Result<(), AllocError>
+    ensures { answers.new ≡ (if is_ok result then answers.old ++ outcome.now ∷ [] else answers.old) }
+{
+    let answer = outcome.copy()?;
+    answers.push(answer)?;
+    Ok(())
 }
 
 impl Machine {
@@ -178,14 +200,11 @@ impl Machine {
     {
         match self.run.wait {
             Wait::Lock { grain, mode } => {
-                let found = state.copy()?;
-                self.reads.push((grain, found))?;
+                note_read(&mut self.reads, grain, &state)?;
                 self.run.feed_lock(alloc, checked, grain, mode, state)?;
                 Ok(())
             }
-            Wait::Raise { .. } => unreachable!(),
-            Wait::Child { .. } => unreachable!(),
-            Wait::Over { .. } => unreachable!(),
+            Wait::Raise { .. } | Wait::Child { .. } | Wait::Over { .. } => unreachable!(),
         }
     }
 
@@ -203,9 +222,7 @@ impl Machine {
                 self.run.feed_raise(alloc, checked, grain)?;
                 Ok(())
             }
-            Wait::Lock { .. } => unreachable!(),
-            Wait::Child { .. } => unreachable!(),
-            Wait::Over { .. } => unreachable!(),
+            Wait::Lock { .. } | Wait::Child { .. } | Wait::Over { .. } => unreachable!(),
         }
     }
 
@@ -225,14 +242,11 @@ impl Machine {
     {
         match self.run.wait {
             Wait::Child { .. } => {
-                let answer = outcome.copy()?;
-                self.answers.push(answer)?;
+                note_answer(&mut self.answers, &outcome)?;
                 self.run.feed_outcome(alloc, checked, outcome)?;
                 Ok(())
             }
-            Wait::Lock { .. } => unreachable!(),
-            Wait::Raise { .. } => unreachable!(),
-            Wait::Over { .. } => unreachable!(),
+            Wait::Lock { .. } | Wait::Raise { .. } | Wait::Over { .. } => unreachable!(),
         }
     }
 
@@ -266,9 +280,7 @@ impl Machine {
         drop(below);
         let result = match wait {
             Wait::Over { outcome } => outcome,
-            Wait::Lock { .. } => unreachable!(),
-            Wait::Raise { .. } => unreachable!(),
-            Wait::Child { .. } => unreachable!(),
+            Wait::Lock { .. } | Wait::Raise { .. } | Wait::Child { .. } => unreachable!(),
         };
         let writes = written_by(&result, has, writes);
         Parts {

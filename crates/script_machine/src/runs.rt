@@ -31,7 +31,7 @@ pub enum Wait {
 }
 
 /// Whether a run goes on, in blocks that are looked up anew, or has paused.
-#[derive(Clone, Copy, Debug, PartialEq, Eq)]
+#[derive(Clone, Copy)]
 pub enum Flow {
     Moved,
     Paused,
@@ -39,7 +39,7 @@ pub enum Flow {
 
 /// Where a run goes on after a statement or a block's end: in the innermost block that is kept, in this block
 /// within it, or elsewhere unless it has paused.
-#[derive(Clone, Copy, Debug, PartialEq, Eq)]
+#[derive(Clone, Copy)]
 pub enum Onward {
     Here,
     Into(OpenBlock),
@@ -62,8 +62,7 @@ fn readable(checked: &Checked, post: Post) -> &[FieldDecl]
 {
     match post.kind {
         MethodKind::Plain => &[],
-        MethodKind::Read => fields_at(checked, post.grain.kind),
-        MethodKind::Update => fields_at(checked, post.grain.kind),
+        MethodKind::Read | MethodKind::Update => fields_at(checked, post.grain.kind),
     }
 }
 
@@ -172,19 +171,18 @@ impl Run {
                 self.go_into(checked, stmt, Part::Second)?;
                 Ok(Flow::Moved)
             }
-            Stmt::Let { .. } => Ok(self.end(Outcome::Fault(text))),
-            Stmt::Assign { .. } => Ok(self.end(Outcome::Fault(text))),
-            Stmt::Set { .. } => Ok(self.end(Outcome::Fault(text))),
-            Stmt::Call { .. } => Ok(self.end(Outcome::Fault(text))),
-            Stmt::If { .. } => Ok(self.end(Outcome::Fault(text))),
-            Stmt::While { .. } => Ok(self.end(Outcome::Fault(text))),
-            Stmt::Return { .. } => Ok(self.end(Outcome::Fault(text))),
-            Stmt::Fail { .. } => Ok(self.end(Outcome::Fault(text))),
+            Stmt::Let { .. }
+            | Stmt::Assign { .. }
+            | Stmt::Set { .. }
+            | Stmt::Call { .. }
+            | Stmt::If { .. }
+            | Stmt::While { .. }
+            | Stmt::Return { .. }
+            | Stmt::Fail { .. } => Ok(self.end(Outcome::Fault(text))),
         }
     }
 
     /// The topmost frame has ended with a value.
-    #[tactic(auto, using(crate::proofs::Sizes::sizes_push))]
     pub fn give(&mut self, checked: &Checked, value: Value) -> Result<Flow, AllocError>
         ensures tree { IfOk result (λ flow. back_of (program_tree checked.now) self.old value self.old.has ≡ stays (program_tree checked.now) self.new flow) }
         ensures less { IfOk result (Shrinks (size self.old) self.new) }

@@ -17,7 +17,7 @@ use crate::runs::{Flow, Onward, Run};
 use base_types::Outcome;
 use script_check::{Checked, fitted};
 use script_tree::{CallExpr, Chars, Expr, FieldDecl, MethodKind, Source, Stmt};
-use script_values::{Reason, Stop, assign, fault_of, field_number};
+use script_values::{Reason, Stop, assign, field_number, stop_at};
 use std::alloc::{AllocError, Global};
 
 /// The fields that a frame may set.
@@ -25,8 +25,7 @@ fn settable(checked: &Checked, post: Post) -> &[FieldDecl]
     ensures { result.now ≡ settable post.kind (fields_of (slice_get (program_tree checked.now) post.grain.kind)) }
 {
     match post.kind {
-        MethodKind::Plain => &[],
-        MethodKind::Read => &[],
+        MethodKind::Plain | MethodKind::Read => &[],
         MethodKind::Update => fields_at(checked, post.grain.kind),
     }
 }
@@ -70,7 +69,7 @@ impl Run {
         let value = self.value(alloc, checked, value)?;
         let Some(field) = field_number(name, settable(checked, self.top.post)) else {
             drop(value);
-            return Err(Stop::Fault(fault_of(alloc, Reason::Unknown)?));
+            return Err(stop_at(alloc, Reason::Unknown));
         };
         self.has.set_field(self.top.post.grain, field, value);
         self.top.at += 1;
@@ -102,7 +101,7 @@ impl Run {
         ensures moves { IfOk result (Moves self.old.top.post self.old.top.path.items self.new) }
         ensures less { IfOk result (ShrinksOn (size self.old + 4) self.new) }
     {
-        Ok(Onward::Away(self.call(alloc, checked, stmt, call)?))
+        Ok(Onward::Away(self.call(alloc, checked, call)?))
     }
 
     /// `fail`, once its step is taken: why the run stops.
@@ -123,21 +122,18 @@ impl Run {
         ensures less { IfOk result (ShrinksOn (size self.old + 4) self.new) }
     {
         match stmt {
-            Stmt::Let { name, value } => match value {
-                Source::Expr(value) => self.assign(alloc, checked, &name.text, value),
-                Source::Call(call) => self.call_away(alloc, checked, stmt, call),
-            },
-            Stmt::Assign { name, value } => match value {
+            Stmt::Let { name, value } | Stmt::Assign { name, value } => match value {
                 Source::Expr(value) => self.assign(alloc, checked, &name.text, value),
                 Source::Call(call) => self.call_away(alloc, checked, stmt, call),
             },
             Stmt::Set { name, value } => self.set(alloc, checked, &name.text, value),
-            Stmt::Call { call } => self.call_away(alloc, checked, stmt, call),
+            Stmt::Call { call } | Stmt::Attempt { call, .. } => {
+                self.call_away(alloc, checked, stmt, call)
+            }
             Stmt::If { test, .. } => self.choose(alloc, checked, stmt, test),
             Stmt::While { .. } => self.again(alloc, checked, stmt),
             Stmt::Return { value } => self.answer(alloc, checked, value),
             Stmt::Fail { text } => Err(self.fail(alloc, text)),
-            Stmt::Attempt { call, .. } => self.call_away(alloc, checked, stmt, call),
         }
     }
 
@@ -149,7 +145,7 @@ impl Run {
         ensures less { IfOk result (ShrinksOn (size self.old) self.new) }
     {
         if !self.has.take_step() {
-            return Err(Stop::Fault(fault_of(alloc, Reason::Budget)?));
+            return Err(stop_at(alloc, Reason::Budget));
         }
         self.carry_out(alloc, checked, stmt)
     }

@@ -64,7 +64,6 @@ pub fn written_by(
 {
     match outcome {
         Outcome::Value(_) => ascending(has.into_held(), writes),
-        Outcome::Fault(_) => List::from_vec(writes),
-        Outcome::Aborted => List::from_vec(writes),
+        Outcome::Fault(_) | Outcome::Aborted => List::from_vec(writes),
     }
 }

@@ -23,7 +23,7 @@ pub struct NameNode {
 }
 
 /// Where the way of a name ends: at its local, at a node that has no kid that way, or at neither.
-#[derive(Clone, Copy, Debug, PartialEq, Eq)]
+#[derive(Clone, Copy)]
 pub enum End {
     At { place: usize },
     Free { node: usize, way: usize },
@@ -126,8 +126,7 @@ pub fn place(others: &NamePlaces, name: &Chars, end: End) -> Option<usize>
 {
     match end {
         End::At { place } => Some(place),
-        End::Free { node: _, way: _ } => others.find(name),
-        End::Nowhere => others.find(name),
+        End::Free { .. } | End::Nowhere => others.find(name),
     }
 }
 

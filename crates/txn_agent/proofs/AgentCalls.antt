@@ -35,7 +35,7 @@ use Rattle.txn_agent.specs.declared.work.Carried.{Carried}
 use Rattle.txn_agent.specs.declared.work.Work.{Work}
 use Rattle.txn_agent.specs.declared.agent.Advanced.TheVariants as came
 use Rattle.txn_agent.specs.MachineState.{IsEffectOf}
-use Rattle.txn_agent.specs.Replies.{is_done}
+use Rattle.txn_agent.specs.Replies.{end_of, is_done}
 use Rattle.txn_agent.specs.CoreLink.{IfOwn, IsPaused, IsWaiting, IsOver, IsBarred, KnowsPaused, KnowsWaiting}
 use Rattle.txn_agent.specs.AgentStep.{Acts, AnswerSays, Puts}
 use Rattle.txn_agent.proofs.Trails.{missing-unit, next-own, unit-wants}
@@ -241,13 +241,13 @@ module _ (may : CoreEvent → Bool) (types : ProgramTree) (s t : Sight) (c : Car
       due = λ alone. due-finished types (run_seen (saw s l.rest)) c work k.trail _ k.at_work (paused-there types s c work counts (Done outcome) l.rest k alone) effect made;
     }
 
-    pub finish_done : Tells may s (Finish c.unit effect) y t → y ≡ reply.Done → (kids : ℕ) → AnswerSays may types c.unit kids s t came.Moved
+    finish_done : Tells may s (Finish c.unit effect) y t → y ≡ reply.Done → (kids : ℕ) → AnswerSays may types c.unit kids s t came.Moved
     finish_done l is kids = inl (Finish c.unit effect, subst (λ (x : CoreReply). Puts may types c.unit s (Finish c.unit effect) x t) is (finish_puts l))
 
     finish_missed : (l : Tells may s (Finish c.unit effect) y t) → is_done y ≡ false → applies (ends (run_seen (saw s l.rest))) (Finish c.unit effect) ≡ false
     finish_missed l f = missed (ends (run_seen (saw s l.rest))) (Finish c.unit effect) y is_done refl l.reply f
 
-    pub finish_moves : Tells may s (Finish c.unit effect) y t → is_done y ≡ false → c.plain ≡ false → (kids : ℕ) → AnswerSays may types c.unit kids s t came.Moved
+    finish_moves : Tells may s (Finish c.unit effect) y t → is_done y ≡ false → c.plain ≡ false → (kids : ℕ) → AnswerSays may types c.unit kids s t came.Moved
     finish_moves l f kind kids = inr (inl record {
       seen = s;
       before = looks-none may s;
@@ -258,11 +258,11 @@ module _ (may : CoreEvent → Bool) (types : ProgramTree) (s t : Sight) (c : Car
       missed = finish_missed l f;
     })
 
-    pub finish_over : Tells may s (Finish c.unit effect) y t → y ≡ reply.Done → (held : List GrainId) → held ≡ work.held → IfOwn c t (λ r. IsOver r c held)
+    finish_over : Tells may s (Finish c.unit effect) y t → y ≡ reply.Done → (held : List GrainId) → held ≡ work.held → IfOwn c t (λ r. IsOver r c held)
     finish_over l is held same = tells-knows (leaves_unit c.unit) (λ r. IsPaused types r c work k.trail) (λ r e h p. paused-on types r e c h work k.trail p) (λ r. IsOver r c held)
         may s t (Finish c.unit effect) y l counts (λ p. over-finished types (run_seen (saw s l.rest)) c work k.trail p held (same ∙ k.at_work.held) effect (sym is ∙ l.reply)) k.linked
 
-    pub finish_stopped : Tells may s (Finish c.unit effect) y t → is_done y ≡ false → c.plain ≡ false → IfOwn c t (λ r. IsBarred r c)
+    finish_stopped : Tells may s (Finish c.unit effect) y t → is_done y ≡ false → c.plain ≡ false → IfOwn c t (λ r. IsBarred r c)
     finish_stopped l f kind = tells-knows (leaves_unit c.unit) (λ r. IsPaused types r c work k.trail) (λ r e h p. paused-on types r e c h work k.trail p) (λ r. IsBarred r c)
         may s t (Finish c.unit effect) y l counts
         (λ p. stopped-by types (run_seen (saw s l.rest)) c work k.trail (Finish c.unit effect) p (can-finished types (run_seen (saw s l.rest)) c work k.trail _ k.at_work p effect made kind) (finish_missed l f)) k.linked
@@ -275,13 +275,13 @@ module _ (may : CoreEvent → Bool) (types : ProgramTree) (s t : Sight) (c : Car
       due = λ alone. due-ended types (run_seen (saw s l.rest)) c work k.trail _ k.at_work (paused-there types s c work counts (Done outcome) l.rest k alone) effect made;
     }
 
-    pub end_done : Tells may s (EndPlain c.unit effect) y t → y ≡ reply.Done → (kids : ℕ) → AnswerSays may types c.unit kids s t came.Moved
+    end_done : Tells may s (EndPlain c.unit effect) y t → y ≡ reply.Done → (kids : ℕ) → AnswerSays may types c.unit kids s t came.Moved
     end_done l is kids = inl (EndPlain c.unit effect, subst (λ (x : CoreReply). Puts may types c.unit s (EndPlain c.unit effect) x t) is (end_puts l))
 
     end_missed : (l : Tells may s (EndPlain c.unit effect) y t) → is_done y ≡ false → applies (ends (run_seen (saw s l.rest))) (EndPlain c.unit effect) ≡ false
     end_missed l f = missed (ends (run_seen (saw s l.rest))) (EndPlain c.unit effect) y is_done refl l.reply f
 
-    pub end_moves : Tells may s (EndPlain c.unit effect) y t → is_done y ≡ false → c.plain ≡ true → (kids : ℕ) → AnswerSays may types c.unit kids s t came.Moved
+    end_moves : Tells may s (EndPlain c.unit effect) y t → is_done y ≡ false → c.plain ≡ true → (kids : ℕ) → AnswerSays may types c.unit kids s t came.Moved
     end_moves l f kind kids = inr (inl record {
       seen = s;
       before = looks-none may s;
@@ -292,11 +292,28 @@ module _ (may : CoreEvent → Bool) (types : ProgramTree) (s t : Sight) (c : Car
       missed = end_missed l f;
     })
 
-    pub end_over : Tells may s (EndPlain c.unit effect) y t → y ≡ reply.Done → (held : List GrainId) → held ≡ work.held → IfOwn c t (λ r. IsOver r c held)
+    end_over : Tells may s (EndPlain c.unit effect) y t → y ≡ reply.Done → (held : List GrainId) → held ≡ work.held → IfOwn c t (λ r. IsOver r c held)
     end_over l is held same = tells-knows (leaves_unit c.unit) (λ r. IsPaused types r c work k.trail) (λ r e h p. paused-on types r e c h work k.trail p) (λ r. IsOver r c held)
         may s t (EndPlain c.unit effect) y l counts (λ p. over-ended types (run_seen (saw s l.rest)) c work k.trail p held (same ∙ k.at_work.held) effect (sym is ∙ l.reply)) k.linked
 
-    pub end_stopped : Tells may s (EndPlain c.unit effect) y t → is_done y ≡ false → c.plain ≡ true → IfOwn c t (λ r. IsBarred r c)
+    end_stopped : Tells may s (EndPlain c.unit effect) y t → is_done y ≡ false → c.plain ≡ true → IfOwn c t (λ r. IsBarred r c)
     end_stopped l f kind = tells-knows (leaves_unit c.unit) (λ r. IsPaused types r c work k.trail) (λ r e h p. paused-on types r e c h work k.trail p) (λ r. IsBarred r c)
         may s t (EndPlain c.unit effect) y l counts
         (λ p. stopped-by types (run_seen (saw s l.rest)) c work k.trail (EndPlain c.unit effect) p (can-ended types (run_seen (saw s l.rest)) c work k.trail _ k.at_work p effect made kind) (end_missed l f)) k.linked
+
+    -- either end
+    pub over_done : (plain : Bool) → Tells may s (end_of plain c.unit effect) y t → y ≡ reply.Done → (kids : ℕ) → AnswerSays may types c.unit kids s t came.Moved
+    over_done true l = end_done l
+    over_done false l = finish_done l
+
+    pub over_moves : (plain : Bool) → c.plain ≡ plain → Tells may s (end_of plain c.unit effect) y t → is_done y ≡ false → (kids : ℕ) → AnswerSays may types c.unit kids s t came.Moved
+    over_moves true kind l f = end_moves l f kind
+    over_moves false kind l f = finish_moves l f kind
+
+    pub over_frees : (plain : Bool) → Tells may s (end_of plain c.unit effect) y t → y ≡ reply.Done → (held : List GrainId) → held ≡ work.held → IfOwn c t (λ r. IsOver r c held)
+    over_frees true l = end_over l
+    over_frees false l = finish_over l
+
+    pub over_stopped : (plain : Bool) → c.plain ≡ plain → Tells may s (end_of plain c.unit effect) y t → is_done y ≡ false → IfOwn c t (λ r. IsBarred r c)
+    over_stopped true kind l f = end_stopped l f kind
+    over_stopped false kind l f = finish_stopped l f kind

@@ -1,7 +1,9 @@
 -- What the core's reply to one's own event says.
 use Rattle.std.specs.Prelude.{◌≡◌, Bool, true, false, List, Option, Some, None}
 use Rattle.core_model.specs.CoreState.{UnitNo, Value}
+use Rattle.core_model.specs.declared.effects.Effect.{Effect}
 use Rattle.core_model.specs.declared.events.CoreEvent.{CoreEvent}
+use Rattle.core_model.specs.declared.events.CoreEvent.TheVariants as event
 use Rattle.core_model.specs.declared.events.CoreReply.{CoreReply}
 use Rattle.core_model.specs.declared.events.CoreReply.TheVariants as reply
 use Rattle.core_access.specs.Sights.{Sight, Tells}
@@ -20,6 +22,11 @@ began_by _ = None
 abbrev pub granted_by : CoreReply → Option (List Value × UnitNo)
 granted_by (reply.Granted s x) = Some (s, x)
 granted_by _ = None
+
+-- the event by which a unit ends, as a plain run or a transaction
+abbrev pub end_of : Bool → UnitNo → Effect → CoreEvent
+end_of true u effect = event.EndPlain u effect
+end_of false u effect = event.Finish u effect
 
 -- one's own event was put, and this is what its reply says, read so
 abbrev pub Says : {A : Type 0} → (CoreEvent → Bool) → Sight → CoreEvent → (CoreReply → A) → A → Sight → Type 0

@@ -122,10 +122,8 @@ impl Agent {
         ensures { result ≡ has_freed_all self.now.doing }
     {
         match &self.doing {
-            Doing::Asks { .. } => false,
-            Doing::Awaits { .. } => false,
             Doing::Frees { held } => held.is_empty(),
-            Doing::Stopped => false,
+            Doing::Asks { .. } | Doing::Awaits { .. } | Doing::Stopped => false,
         }
     }
 
@@ -134,10 +132,8 @@ impl Agent {
         ensures { result ≡ is_freeing self.now.doing }
     {
         match &self.doing {
-            Doing::Asks { .. } => false,
-            Doing::Awaits { .. } => false,
             Doing::Frees { .. } => true,
-            Doing::Stopped => false,
+            Doing::Asks { .. } | Doing::Awaits { .. } | Doing::Stopped => false,
         }
     }
 
@@ -146,10 +142,8 @@ impl Agent {
         ensures { result ≡ is_awaiting self.now.doing }
     {
         match &self.doing {
-            Doing::Asks { .. } => false,
             Doing::Awaits { .. } => true,
-            Doing::Frees { .. } => false,
-            Doing::Stopped => false,
+            Doing::Asks { .. } | Doing::Frees { .. } | Doing::Stopped => false,
         }
     }
 
@@ -158,10 +152,8 @@ impl Agent {
         ensures { result ≡ children_of self.now.doing }
     {
         match &self.doing {
-            Doing::Asks { work, .. } => work.kids,
-            Doing::Awaits { work, .. } => work.kids,
-            Doing::Frees { .. } => 0,
-            Doing::Stopped => 0,
+            Doing::Asks { work, .. } | Doing::Awaits { work, .. } => work.kids,
+            Doing::Frees { .. } | Doing::Stopped => 0,
         }
     }
 
@@ -218,8 +210,7 @@ impl Agent {
         if !matches!(self.doing, Doing::Awaits { .. }) {
             return Ok(());
         }
-        self.hear_now(alloc, checked, access)?;
-        Ok(())
+        self.hear_now(alloc, checked, access)
     }
 
     /// Whether the unit moves, by what was looked at in this call: false where `advance` would answer `Waits`, `WaitsLoad`,
@@ -233,8 +224,7 @@ impl Agent {
         ensures moves { IfOk result (λ b. (types : ProgramTree) → Counts (A.sight access.old) → Knows types (A.sight access.old) self.now
             → IfOwn self.now.carried (A.sight access.new) (λ r. ShowsMove types r self.now.carried self.now.doing b)) }
     {
-        let moves = moves_now(access, self.carried, &self.doing)?;
-        Ok(moves)
+        moves_now(access, self.carried, &self.doing)
     }
 
     /// Puts the unit's wish that the grain for whose lock its script asks be brought into memory, where the core shows in this call
@@ -250,8 +240,7 @@ impl Agent {
         ensures knows { (types : ProgramTree) → Counts (A.sight access.old) → Knows types (A.sight access.old) self.now
             → Knows types (A.sight access.new) self.now }
     {
-        let done = wish(access, self.carried, &self.doing)?;
-        Ok(done)
+        wish(access, self.carried, &self.doing)
     }
 
     /// Whether the unit asks for no lock, or the core shows in this call that the grain of the one for which it asks is in memory.

@@ -1,4 +1,4 @@
-ghost use Rattle.std.specs.Prelude.{◌≡◌, not, true, false, Some};
+ghost use Rattle.std.specs.Prelude.{◌≡◌, not, Some};
 ghost use Rattle.core_model.specs.CoreState.{same_grain};
 ghost use Rattle.core_model.specs.Tests.{first_grain, first_of_two, is_before};
 ghost use Rattle.core_access.specs.Sights.{Counts};
@@ -9,14 +9,15 @@ ghost use Rattle.txn_agent.specs.CoreLink.{KnowsPaused, KnowsDoing};
 ghost use Rattle.txn_agent.specs.AgentStep.{HasStepped, all_but};
 
 use crate::agent::Advanced;
-use crate::puts::{put_end, put_finish, put_release};
+use crate::puts::{put_end, put_release};
 use crate::work::{Carried, Doing, Work};
 use base_types::{GrainId, List, Outcome};
 use core_access::Access;
 use script_check::Checked;
 use std::alloc::{AllocError, Global};
 
-/// Finishes a transaction. Then its locks are to be given back.
+/// Ends a unit whose script is over: finishes a transaction, or ends a plain run. Then its locks are to be given back, of which
+/// a plain run has none.
 pub fn finish<A: Access>(
     alloc: Global,
     checked: &Checked,
@@ -28,36 +29,11 @@ pub fn finish<A: Access>(
     requires fit { A.is_fit access.old }
     requires counts { Counts (A.sight access.old) }
     requires paused { KnowsPaused (program_tree checked.now) (A.sight access.old) carried work (IsAtEnd outcome) }
-    requires kind { carried.plain ≡ false }
     ensures stepped { HasStepped A.is_fit A.aside A.may_come A.sight (program_tree checked.now) carried work.kids access.old access.new result }
 {
     drop(outcome);
     let (effect, held) = work.into_effect(alloc, carried)?;
-    let done = put_finish(access, carried.unit, effect)?;
-    if done {
-        return Ok((Doing::Frees { held }, Advanced::Moved));
-    }
-    Ok((Doing::Stopped, Advanced::Moved))
-}
-
-/// Ends a plain run. Then its locks are to be given back, of which it has none.
-pub fn end_plain<A: Access>(
-    alloc: Global,
-    checked: &Checked,
-    access: &mut A,
-    carried: Carried,
-    work: Work,
-    outcome: Outcome,
-) -> Result<(Doing, Advanced), AllocError>
-    requires fit { A.is_fit access.old }
-    requires counts { Counts (A.sight access.old) }
-    requires paused { KnowsPaused (program_tree checked.now) (A.sight access.old) carried work (IsAtEnd outcome) }
-    requires kind { carried.plain ≡ true }
-    ensures stepped { HasStepped A.is_fit A.aside A.may_come A.sight (program_tree checked.now) carried work.kids access.old access.new result }
-{
-    drop(outcome);
-    let (effect, held) = work.into_effect(alloc, carried)?;
-    let done = put_end(access, carried.unit, effect)?;
+    let done = put_end(access, carried.plain, carried.unit, effect)?;
     if done {
         return Ok((Doing::Frees { held }, Advanced::Moved));
     }

@@ -3,7 +3,7 @@ ghost use Rattle.core_model.specs.declared.events.CoreEvent.TheVariants as event
 ghost use Rattle.core_access.specs.FitAccess.{StaysFit};
 ghost use Rattle.core_access.specs.Sights.{Looks, Tells, run_seen};
 ghost use Rattle.core_access.specs.CallsWithoutMemory.{is_spared};
-ghost use Rattle.txn_agent.specs.Replies.{Says, began_by, granted_by, is_done};
+ghost use Rattle.txn_agent.specs.Replies.{Says, began_by, end_of, granted_by, is_done};
 
 use base_types::{Call, GrainId, Mode, Origin, State, UnitNo};
 use core_access::Access;
@@ -34,15 +34,15 @@ fn is_done(reply: CoreReply) -> bool
 {
     match reply {
         CoreReply::Done => true,
-        CoreReply::Unapplied => false,
-        CoreReply::Began { .. } => false,
-        CoreReply::Granted { .. } => false,
-        CoreReply::NotGranted(_) => false,
-        CoreReply::Doomed { .. } => false,
-        CoreReply::NotActive => false,
-        CoreReply::NotLoaded => false,
-        CoreReply::Taken { .. } => false,
-        CoreReply::Decided { .. } => false,
+        CoreReply::Unapplied
+        | CoreReply::Began { .. }
+        | CoreReply::Granted { .. }
+        | CoreReply::NotGranted(_)
+        | CoreReply::Doomed { .. }
+        | CoreReply::NotActive
+        | CoreReply::NotLoaded
+        | CoreReply::Taken { .. }
+        | CoreReply::Decided { .. } => false,
     }
 }
 
@@ -52,15 +52,15 @@ fn began(reply: CoreReply) -> Option<UnitNo>
 {
     match reply {
         CoreReply::Began { unit } => Some(unit),
-        CoreReply::Unapplied => None,
-        CoreReply::Done => None,
-        CoreReply::Granted { .. } => None,
-        CoreReply::NotGranted(_) => None,
-        CoreReply::Doomed { .. } => None,
-        CoreReply::NotActive => None,
-        CoreReply::NotLoaded => None,
-        CoreReply::Taken { .. } => None,
-        CoreReply::Decided { .. } => None,
+        CoreReply::Unapplied
+        | CoreReply::Done
+        | CoreReply::Granted { .. }
+        | CoreReply::NotGranted(_)
+        | CoreReply::Doomed { .. }
+        | CoreReply::NotActive
+        | CoreReply::NotLoaded
+        | CoreReply::Taken { .. }
+        | CoreReply::Decided { .. } => None,
     }
 }
 
@@ -70,15 +70,15 @@ fn granted(reply: CoreReply) -> Option<(State, UnitNo)>
 {
     match reply {
         CoreReply::Granted { state, source } => Some((state, source)),
-        CoreReply::Unapplied => None,
-        CoreReply::Done => None,
-        CoreReply::Began { .. } => None,
-        CoreReply::NotGranted(_) => None,
-        CoreReply::Doomed { .. } => None,
-        CoreReply::NotActive => None,
-        CoreReply::NotLoaded => None,
-        CoreReply::Taken { .. } => None,
-        CoreReply::Decided { .. } => None,
+        CoreReply::Unapplied
+        | CoreReply::Done
+        | CoreReply::Began { .. }
+        | CoreReply::NotGranted(_)
+        | CoreReply::Doomed { .. }
+        | CoreReply::NotActive
+        | CoreReply::NotLoaded
+        | CoreReply::Taken { .. }
+        | CoreReply::Decided { .. } => None,
     }
 }
 
@@ -146,28 +146,31 @@ pub fn put_refuse<A: Access>(
     put_done(access, CoreEvent::Refuse { unit, grain, mode })
 }
 
-/// Puts the end of a transaction, and answers whether it was done.
-pub fn put_finish<A: Access>(
+/// The event by which a unit ends, as a plain run or a transaction.
+fn end_of(plain: bool, unit: UnitNo, effect: Effect) -> CoreEvent
+    ensures { result ≡ end_of plain unit effect }
+{
+    if plain {
+        CoreEvent::EndPlain { unit, effect }
+    } else {
+        CoreEvent::Finish { unit, effect }
+    }
+}
+
+/// Puts the end of a unit, of a plain run or a transaction, and answers whether it was done.
+pub fn put_end<A: Access>(
     access: &mut A,
+    plain: bool,
     unit: UnitNo,
     effect: Effect,
 ) -> Result<bool, AllocError>
     requires fit { A.is_fit access.old }
     ensures kept { StaysFit (A.is_fit access.new) (A.aside access.old) (A.aside access.new) }
-    ensures said { IfOk result (λ said. Says A.may_come (A.sight access.old) (event.Finish unit effect) is_done said (A.sight access.new)) }
+    ensures said { IfOk result (λ said. Says A.may_come (A.sight access.old) (end_of plain unit effect) is_done said (A.sight access.new)) }
     ensures looked { IfErr result (λ _. Looks A.may_come (A.sight access.old) (A.sight access.new)) }
 {
-    put_done(access, CoreEvent::Finish { unit, effect })
-}
-
-/// Puts the end of a plain run, and answers whether it was done.
-pub fn put_end<A: Access>(access: &mut A, unit: UnitNo, effect: Effect) -> Result<bool, AllocError>
-    requires fit { A.is_fit access.old }
-    ensures kept { StaysFit (A.is_fit access.new) (A.aside access.old) (A.aside access.new) }
-    ensures said { IfOk result (λ said. Says A.may_come (A.sight access.old) (event.EndPlain unit effect) is_done said (A.sight access.new)) }
-    ensures looked { IfErr result (λ _. Looks A.may_come (A.sight access.old) (A.sight access.new)) }
-{
-    put_done(access, CoreEvent::EndPlain { unit, effect })
+    let event = end_of(plain, unit, effect);
+    put_done(access, event)
 }
 
 /// Puts the giving back of a lock, and answers whether it was done.

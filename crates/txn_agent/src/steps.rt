@@ -9,7 +9,7 @@ ghost use Rattle.txn_agent.specs.ShownMoves.{ShowsMove};
 
 use crate::agent::Advanced;
 use crate::children::{begin_child, hear};
-use crate::ends::{end_plain, finish, release};
+use crate::ends::{finish, release};
 use crate::locks::take_grain;
 use crate::looks::{ask_for, is_decided, known_of};
 use crate::work::{Carried, Doing, Work};
@@ -64,13 +64,7 @@ fn do_asked<A: Access>(
             alloc, checked, access, carried, work, grain, mode,
         ),
         Pause::NeedUnit { call, depth } => begin_child(checked, access, carried, work, call, depth),
-        Pause::Done { outcome } => {
-            if carried.plain {
-                end_plain(alloc, checked, access, carried, work, outcome)
-            } else {
-                finish(alloc, checked, access, carried, work, outcome)
-            }
-        }
+        Pause::Done { outcome } => finish(alloc, checked, access, carried, work, outcome),
     }
 }
 
@@ -126,13 +120,12 @@ fn must_wait(answer: AskAnswer) -> bool
     ensures { result ≡ is_wait answer }
 {
     match answer {
-        AskAnswer::MustWait { holder: _holder } => true,
-        AskAnswer::Free => false,
-        AskAnswer::MustDie { holder: _holder } => false,
-        AskAnswer::Doomed { source: _source } => false,
-        AskAnswer::NotActive => false,
-        AskAnswer::Held => false,
-        AskAnswer::Absent => true,
+        AskAnswer::MustWait { .. } | AskAnswer::Absent => true,
+        AskAnswer::Free
+        | AskAnswer::MustDie { .. }
+        | AskAnswer::Doomed { .. }
+        | AskAnswer::NotActive
+        | AskAnswer::Held => false,
     }
 }
 

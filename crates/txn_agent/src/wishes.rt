@@ -22,12 +22,9 @@ fn lock_of(doing: &Doing) -> Option<(GrainId, Mode)>
     match doing {
         Doing::Asks { pause, .. } => match pause {
             Pause::NeedGrain { grain, mode } => Some((*grain, *mode)),
-            Pause::NeedUnit { .. } => None,
-            Pause::Done { .. } => None,
+            Pause::NeedUnit { .. } | Pause::Done { .. } => None,
         },
-        Doing::Awaits { .. } => None,
-        Doing::Frees { .. } => None,
-        Doing::Stopped => None,
+        Doing::Awaits { .. } | Doing::Frees { .. } | Doing::Stopped => None,
     }
 }
 
@@ -37,12 +34,12 @@ fn is_absent(answer: AskAnswer) -> bool
 {
     match answer {
         AskAnswer::Absent => true,
-        AskAnswer::Free => false,
-        AskAnswer::MustWait { holder: _holder } => false,
-        AskAnswer::MustDie { holder: _holder } => false,
-        AskAnswer::Doomed { source: _source } => false,
-        AskAnswer::NotActive => false,
-        AskAnswer::Held => false,
+        AskAnswer::Free
+        | AskAnswer::MustWait { .. }
+        | AskAnswer::MustDie { .. }
+        | AskAnswer::Doomed { .. }
+        | AskAnswer::NotActive
+        | AskAnswer::Held => false,
     }
 }
 
@@ -51,13 +48,11 @@ fn shows_grain(answer: AskAnswer) -> bool
     ensures { result ≡ shows_grain answer }
 {
     match answer {
-        AskAnswer::Free => true,
-        AskAnswer::Held => true,
-        AskAnswer::MustWait { holder: _holder } => true,
-        AskAnswer::MustDie { holder: _holder } => true,
-        AskAnswer::Absent => false,
-        AskAnswer::Doomed { source: _source } => false,
-        AskAnswer::NotActive => false,
+        AskAnswer::Free
+        | AskAnswer::Held
+        | AskAnswer::MustWait { .. }
+        | AskAnswer::MustDie { .. } => true,
+        AskAnswer::Absent | AskAnswer::Doomed { .. } | AskAnswer::NotActive => false,
     }
 }
 

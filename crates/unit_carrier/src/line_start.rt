@@ -40,9 +40,7 @@ fn is_new_unit(entered: Entered) -> bool
 {
     match entered {
         Entered::NewUnit => true,
-        Entered::Joined => false,
-        Entered::Plain { context: _context } => false,
-        Entered::Refused(_why) => false,
+        Entered::Joined | Entered::Plain { .. } | Entered::Refused(_) => false,
     }
 }
 
@@ -81,15 +79,15 @@ fn begun(reply: &CoreReply) -> Option<UnitNo>
 {
     match reply {
         CoreReply::Began { unit } => Some(*unit),
-        CoreReply::Unapplied => None,
-        CoreReply::Done => None,
-        CoreReply::Granted { .. } => None,
-        CoreReply::NotGranted(_) => None,
-        CoreReply::Doomed { .. } => None,
-        CoreReply::NotActive => None,
-        CoreReply::Taken { .. } => None,
-        CoreReply::Decided { .. } => None,
-        CoreReply::NotLoaded => None,
+        CoreReply::Unapplied
+        | CoreReply::Done
+        | CoreReply::Granted { .. }
+        | CoreReply::NotGranted(_)
+        | CoreReply::Doomed { .. }
+        | CoreReply::NotActive
+        | CoreReply::NotLoaded
+        | CoreReply::Taken { .. }
+        | CoreReply::Decided { .. } => None,
     }
 }
 

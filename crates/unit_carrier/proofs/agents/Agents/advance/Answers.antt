@@ -1,13 +1,15 @@
 use Rattle.std.proofs.Common.{◌≡◌, ◌∙◌, List, Some, ap, refl, subst, sym}
 use Rattle.std.specs.Prelude.{OnErr, Result, Ok, Err, slice_get, slice_set}
 use Rattle.std.proofs.lemmas.Option.{slice_get_read}
+use Rattle.std.proofs.lemmas.Result.{err_from_is_err_and}
 use Rattle.script_tree.specs.Programs.{program_tree}
 use Rattle.txn_agent.specs.declared.agent.Advanced.{Advanced}
 use Rattle.txn_agent.specs.declared.agent.Advanced.TheVariants as came
 use Rattle.txn_agent.specs.AgentStep.{AnswerSays, children_of}
 use Rattle.txn_agent.specs.declared.agent.Agent.{Agent}
+use Rattle.txn_agent.specs.CoreLink.{Knows}
 use Rattle.unit_carrier.specs.CarriedUnits.{AreFreed, as_carried}
-use Rattle.unit_carrier.proofs.MoverSearch.{map-set}
+use Rattle.unit_carrier.proofs.MoverSearch.{all-at, map-set}
 use Rattle.unit_carrier.proofs.FreedUnits.{freed-set, freed-set-more}
 use Rattle.unit_carrier.proofs.Places.{acts-here, child-carried, child-units, steps-carried, steps-on, units-set}
 use Rattle.unit_carrier.proofs.agents.Agents.advance.Goals as goal
@@ -171,3 +173,73 @@ returns-in_err-child-clause-freed g c = λ front le freed. freed-set c.args.self
 pub returns-in_err-carry-in-Began-clause-freed : goal.returns-in_err-carry-in-Began-clause-freed
 returns-in_err-carry-in-Began-clause-freed g c = λ front le freed.
     subst (λ (agents : List Agent). AreFreed front agents) (sym c.in_err-carry-in-Began.ensures) (freed-set c.args.self.now.list.items front c.args.index c.advance.new.self le freed)
+
+pub returns-in_err-child-clause-kept : goal.returns-in_err-child-clause-kept
+returns-in_err-child-clause-kept g c = c.advance.ensures.kept
+
+pub returns-in_err-carry-in-Began-clause-kept : goal.returns-in_err-carry-in-Began-clause-kept
+returns-in_err-carry-in-Began-clause-kept g c = c.advance.ensures.kept
+
+pub returns-in_ok-carry-in-Began-clause-kept : goal.returns-in_ok-carry-in-Began-clause-kept
+returns-in_ok-carry-in-Began-clause-kept g c = c.advance.ensures.kept
+
+pub returns-in-Granted-clause-kept : goal.returns-in-Granted-clause-kept
+returns-in-Granted-clause-kept g c = c.advance.ensures.kept
+
+pub returns-in-Moved-clause-kept : goal.returns-in-Moved-clause-kept
+returns-in-Moved-clause-kept g c = c.advance.ensures.kept
+
+pub returns-in-Waits-clause-kept : goal.returns-in-Waits-clause-kept
+returns-in-Waits-clause-kept g c = c.advance.ensures.kept
+
+pub returns-in-WaitsLoad-clause-kept : goal.returns-in-WaitsLoad-clause-kept
+returns-in-WaitsLoad-clause-kept g c = c.advance.ensures.kept
+
+pub returns-in-WaitsFor-clause-kept : goal.returns-in-WaitsFor-clause-kept
+returns-in-WaitsFor-clause-kept g c = c.advance.ensures.kept
+
+pub returns-in-Ended-clause-kept : goal.returns-in-Ended-clause-kept
+returns-in-Ended-clause-kept g c = c.advance.ensures.kept
+
+pub returns-in-Waits-clause-acts : goal.returns-in-Waits-clause-acts
+returns-in-Waits-clause-acts g c =
+    let q : slice_get c.args.self.now.list.items c.args.index ≡ Some c.index_mut-agent.result.now = slice_get_read c.args.self.now.list.items _ c.args.index c.index_mut-agent.result.now refl c.requires.within c.index_mut-agent.ensures.value in
+    acts-here (program_tree c.args.checked.now) g.A.Access.may_come (g.A.Access.sight c.args.access.now) (g.A.Access.sight c.advance.new.access) c.args.self.now.list.items c.args.index c.index_mut-agent.result.now q c.advance.ensures.acts
+
+pub returns-in-WaitsLoad-clause-acts : goal.returns-in-WaitsLoad-clause-acts
+returns-in-WaitsLoad-clause-acts g c =
+    let q : slice_get c.args.self.now.list.items c.args.index ≡ Some c.index_mut-agent.result.now = slice_get_read c.args.self.now.list.items _ c.args.index c.index_mut-agent.result.now refl c.requires.within c.index_mut-agent.ensures.value in
+    acts-here (program_tree c.args.checked.now) g.A.Access.may_come (g.A.Access.sight c.args.access.now) (g.A.Access.sight c.advance.new.access) c.args.self.now.list.items c.args.index c.index_mut-agent.result.now q c.advance.ensures.acts
+
+pub returns-in-WaitsFor-clause-acts : goal.returns-in-WaitsFor-clause-acts
+returns-in-WaitsFor-clause-acts g c =
+    let q : slice_get c.args.self.now.list.items c.args.index ≡ Some c.index_mut-agent.result.now = slice_get_read c.args.self.now.list.items _ c.args.index c.index_mut-agent.result.now refl c.requires.within c.index_mut-agent.ensures.value in
+    acts-here (program_tree c.args.checked.now) g.A.Access.may_come (g.A.Access.sight c.args.access.now) (g.A.Access.sight c.advance.new.access) c.args.self.now.list.items c.args.index c.index_mut-agent.result.now q c.advance.ensures.acts
+
+pub returns-in-Ended-clause-acts : goal.returns-in-Ended-clause-acts
+returns-in-Ended-clause-acts g c =
+    let q : slice_get c.args.self.now.list.items c.args.index ≡ Some c.index_mut-agent.result.now = slice_get_read c.args.self.now.list.items _ c.args.index c.index_mut-agent.result.now refl c.requires.within c.index_mut-agent.ensures.value in
+    acts-here (program_tree c.args.checked.now) g.A.Access.may_come (g.A.Access.sight c.args.access.now) (g.A.Access.sight c.advance.new.access) c.args.self.now.list.items c.args.index c.index_mut-agent.result.now q c.advance.ensures.acts
+
+pub returns-in_err-child-clause-steps : goal.returns-in_err-child-clause-steps
+returns-in_err-child-clause-steps g c = let q = err_from_is_err_and c.from_residual.result c.from_residual.ensures.1 in rw q.1 tt
+
+pub returns-in_err-child-clause-carried : goal.returns-in_err-child-clause-carried
+returns-in_err-child-clause-carried g c = let q = err_from_is_err_and c.from_residual.result c.from_residual.ensures.1 in rw q.1 tt
+
+pub returns-in_err-carry-in-Began-clause-steps : goal.returns-in_err-carry-in-Began-clause-steps
+returns-in_err-carry-in-Began-clause-steps g c = let q = err_from_is_err_and c.from_residual-in_err-carry-in-Began.result c.from_residual-in_err-carry-in-Began.ensures.1 in rw q.1 tt
+
+pub returns-in_err-carry-in-Began-clause-carried : goal.returns-in_err-carry-in-Began-clause-carried
+returns-in_err-carry-in-Began-clause-carried g c = let q = err_from_is_err_and c.from_residual-in_err-carry-in-Began.result c.from_residual-in_err-carry-in-Began.ensures.1 in rw q.1 tt
+
+pub advance-requires-clause-fit : goal.advance-requires-clause-fit
+advance-requires-clause-fit g c = c.requires.fit
+
+pub advance-requires-clause-counts : goal.advance-requires-clause-counts
+advance-requires-clause-counts g c = c.requires.carried.holds.counts
+
+pub advance-requires-clause-knows : goal.advance-requires-clause-knows
+advance-requires-clause-knows g c =
+    let q : slice_get c.args.self.now.list.items c.args.index ≡ Some c.index_mut-agent.result.now = slice_get_read c.args.self.now.list.items _ c.args.index c.index_mut-agent.result.now refl c.requires.within c.index_mut-agent.ensures.value in
+    all-at (Knows (program_tree c.args.checked.now) (g.A.Access.sight c.args.access.now)) c.args.self.now.list.items c.args.index c.index_mut-agent.result.now q c.requires.carried.known

@@ -1,10 +1,12 @@
 use Rattle.std.proofs.Common.{◌≡◌, refl, sym, ◌∙◌, subst, arith, Some}
 use Rattle.std.specs.Prelude.{slice_get}
+use Rattle.std.proofs.lemmas.Result.{err_from_is_err_and}
 use Rattle.core_access.specs.Sights.{Sight, run_seen}
 use Rattle.script_tree.specs.Programs.{program_tree}
 use Rattle.txn_agent.specs.declared.agent.Agent.{Agent}
+use Rattle.txn_agent.specs.CoreLink.{Knows}
 use Rattle.unit_carrier.specs.CarriedUnits.{AreCarried, units_carried}
-use Rattle.unit_carrier.proofs.MoverSearch.{map-set}
+use Rattle.unit_carrier.proofs.MoverSearch.{all-at, map-set}
 use Rattle.unit_carrier.proofs.FreedUnits.{freed-none, freed-set}
 use Rattle.unit_carrier.proofs.Places.{agent-here, set-carried}
 use Rattle.unit_carrier.proofs.Movers.{unit-first, units-past, index-within, one-fits, told-first, found-here, one-moves, none-moves, all-counted}
@@ -105,3 +107,51 @@ returns-in_err-can_move_now-clause-units g c =
     agent-here c.args.self.now.list.items c.loop-index.self.list.items c.len-index-end.result c.loop-index.index c.index_mut.result.now c.loop-index.invariant.units (search) c.loop-index-test.true c.index_mut.ensures.value in
     map-set (λ (a : Agent). a.carried) c.loop-index.self.list.items c.loop-index.index c.index_mut.result.now c.can_move_now.new.agent q c.can_move_now.ensures.carried
     ∙ c.loop-index.invariant.units
+
+pub returns-in_err-can_move_now-clause-kept : goal.returns-in_err-can_move_now-clause-kept
+returns-in_err-can_move_now-clause-kept g c = record { fit = c.can_move_now.ensures.kept.fit; aside = c.can_move_now.ensures.kept.aside ∙ c.loop-index.invariant.aside }
+
+pub returns-in_err-can_move_now-clause-same : goal.returns-in_err-can_move_now-clause-same
+returns-in_err-can_move_now-clause-same g c = c.can_move_now.ensures.same ∙ c.loop-index.invariant.same
+
+pub returns-in_err-can_move_now-clause-carried : goal.returns-in_err-can_move_now-clause-carried
+returns-in_err-can_move_now-clause-carried g c = let q = err_from_is_err_and c.from_residual.result c.from_residual.ensures.1 in rw q.1 tt
+
+pub returns-in_err-can_move_now-clause-within : goal.returns-in_err-can_move_now-clause-within
+returns-in_err-can_move_now-clause-within g c = let q = err_from_is_err_and c.from_residual.result c.from_residual.ensures.1 in rw q.1 tt
+
+pub returns-in_err-can_move_now-clause-found : goal.returns-in_err-can_move_now-clause-found
+returns-in_err-can_move_now-clause-found g c = λ going. let q = err_from_is_err_and c.from_residual.result c.from_residual.ensures.1 in rw q.1 tt
+
+pub returns-then-movers-place-clause-kept : goal.returns-then-movers-place-clause-kept
+returns-then-movers-place-clause-kept g c = record { fit = c.can_move_now.ensures.kept.fit; aside = c.can_move_now.ensures.kept.aside ∙ c.loop-index.invariant.aside }
+
+pub returns-then-movers-place-clause-same : goal.returns-then-movers-place-clause-same
+returns-then-movers-place-clause-same g c = c.can_move_now.ensures.same ∙ c.loop-index.invariant.same
+
+pub returns-clause-kept : goal.returns-clause-kept
+returns-clause-kept g c = record { fit = c.loop-index.invariant.fit; aside = c.loop-index.invariant.aside }
+
+pub returns-clause-same : goal.returns-clause-same
+returns-clause-same g c = c.loop-index.invariant.same
+
+pub returns-clause-carried : goal.returns-clause-carried
+returns-clause-carried g c = c.loop-index.invariant.carried
+
+pub returns-clause-units : goal.returns-clause-units
+returns-clause-units g c = c.loop-index.invariant.units
+
+pub returns-clause-freed : goal.returns-clause-freed
+returns-clause-freed g c = c.loop-index.invariant.freed
+
+pub can_move_now-requires-clause-fit : goal.can_move_now-requires-clause-fit
+can_move_now-requires-clause-fit g c = c.loop-index.invariant.fit
+
+pub can_move_now-requires-clause-holds : goal.can_move_now-requires-clause-holds
+can_move_now-requires-clause-holds g c = c.loop-index.invariant.carried.holds
+
+pub can_move_now-requires-clause-knows : goal.can_move_now-requires-clause-knows
+can_move_now-requires-clause-knows g c =
+    let q : slice_get c.loop-index.self.list.items c.loop-index.index ≡ Some c.index_mut.result.now =
+    agent-here c.args.self.now.list.items c.loop-index.self.list.items c.len-index-end.result c.loop-index.index c.index_mut.result.now c.loop-index.invariant.units (search) c.loop-index-test.true c.index_mut.ensures.value in
+    all-at (Knows (program_tree c.args.checked.now) (g.A.Access.sight c.loop-index.access)) c.loop-index.self.list.items c.loop-index.index c.index_mut.result.now q c.loop-index.invariant.carried.known
