@@ -29,3 +29,9 @@ returns-clause-crew g c = λ types crew.
     let wishes = says-wishes g.A.Access.may_come types c.index.result.now.carried.unit c.index.result.now.doing (g.A.Access.sight c.args.access.now) (g.A.Access.sight c.want.new.access) c.in_ok-wished.wished (c.in_ok-wished.ensures.told types crew.counts knows) in
     crew-so types (g.A.Access.sight c.args.access.now) (g.A.Access.sight c.want.new.access) c.args.agents.now.list.items (λ v b. wishes-back g.A.Access.may_come types c.index.result.now.carried.unit (g.A.Access.sight c.args.access.now) (g.A.Access.sight c.want.new.access) v wishes b)
     (wishes-so types g.A.Access.may_come (g.A.Access.sight c.args.access.now) (g.A.Access.sight c.want.new.access) c.args.agents.now.list.items crew c.args.index c.index.result.now c.index.result.now q refl wishes (c.want.ensures.knows types crew.counts knows))
+
+pub returns-in_err-wished-clause-kept : goal.returns-in_err-wished-clause-kept
+returns-in_err-wished-clause-kept g c = c.want.ensures.kept
+
+pub returns-clause-kept : goal.returns-clause-kept
+returns-clause-kept g c = c.want.ensures.kept

@@ -1,6 +1,7 @@
-use Rattle.std.proofs.Common.{◌≡◌, ◌≤◌, ◌-◌, ◌∙◌, sym, ap, subst, arith}
+use Rattle.std.proofs.Common.{◌≡◌, ◌≤◌, ◌-◌, ◌∙◌, refl, sym, ap, subst, arith}
 use Rattle.core_model.specs.LegalRuns.{Run, ends}
 use Rattle.core_access.specs.Sights.{Sight}
+use Rattle.std.proofs.lemmas.Result.{err_from_is_err_and}
 use Rattle.script_tree.specs.Programs.{program_tree}
 use Rattle.unit_crew.specs.Crews.{IsBasisOf}
 use Rattle.unit_crew.proofs.BegunUnits.{starts-crew, works-starts}
@@ -49,3 +50,87 @@ pub returns-in-Some-began-clause-crew : goal.returns-in-Some-began-clause-crew
 returns-in-Some-began-clause-crew g c =
     starts-crew (program_tree c.args.checked.now) g.A.Access.may_come (g.A.Access.sight c.next_line.new.access) (g.A.Access.sight c.start_line.new.access) c.in-Some.line.number c.args.agents.now.list.items c.start_line.new.agents.list.items c.in_ok-began-in-Some.began (looks-crew (program_tree c.args.checked.now) g.A.Access.may_come (g.A.Access.sight c.args.access.now) (g.A.Access.sight c.next_line.new.access) c.args.agents.now.list.items c.requires.crew c.next_line.ensures.looked)
     c.in-Some.line.what c.in_ok-began-in-Some.ensures.starts
+
+pub returns-in_err-line_at-clause-kept : goal.returns-in_err-line_at-clause-kept
+returns-in_err-line_at-clause-kept g c = c.next_line.ensures.kept
+
+pub returns-in_err-line_at-clause-same : goal.returns-in_err-line_at-clause-same
+returns-in_err-line_at-clause-same g c = c.line_at.ensures.same
+
+pub returns-in_err-line_at-clause-crew : goal.returns-in_err-line_at-clause-crew
+returns-in_err-line_at-clause-crew g c = let q = err_from_is_err_and c.from_residual-in_err-line_at.result c.from_residual-in_err-line_at.ensures.1 in rw q.1 tt
+
+pub returns-in_err-line_at-clause-past : goal.returns-in_err-line_at-clause-past
+returns-in_err-line_at-clause-past g c = let q = err_from_is_err_and c.from_residual-in_err-line_at.result c.from_residual-in_err-line_at.ensures.1 in rw q.1 tt
+
+pub returns-in_err-line_at-clause-none : goal.returns-in_err-line_at-clause-none
+returns-in_err-line_at-clause-none g c = let q = err_from_is_err_and c.from_residual-in_err-line_at.result c.from_residual-in_err-line_at.ensures.1 in rw q.1 tt
+
+pub returns-in-None-clause-kept : goal.returns-in-None-clause-kept
+returns-in-None-clause-kept g c = c.next_line.ensures.kept
+
+pub returns-in-None-clause-same : goal.returns-in-None-clause-same
+returns-in-None-clause-same g c = c.line_at.ensures.same
+
+pub returns-in_err-began-in-Some-clause-kept : goal.returns-in_err-began-in-Some-clause-kept
+returns-in_err-began-in-Some-clause-kept g c = record { fit = c.start_line.ensures.kept.fit; aside = c.start_line.ensures.kept.aside ∙ c.next_line.ensures.kept.aside }
+
+pub returns-in_err-began-in-Some-clause-same : goal.returns-in_err-began-in-Some-clause-same
+returns-in_err-began-in-Some-clause-same g c = c.line_at.ensures.same
+
+pub returns-in_err-began-in-Some-clause-crew : goal.returns-in_err-began-in-Some-clause-crew
+returns-in_err-began-in-Some-clause-crew g c = let q = err_from_is_err_and c.from_residual-in_err-began-in-Some.result c.from_residual-in_err-began-in-Some.ensures.1 in rw q.1 tt
+
+pub returns-in_err-began-in-Some-clause-past : goal.returns-in_err-began-in-Some-clause-past
+returns-in_err-began-in-Some-clause-past g c = let q = err_from_is_err_and c.from_residual-in_err-began-in-Some.result c.from_residual-in_err-began-in-Some.ensures.1 in rw q.1 tt
+
+pub returns-in_err-began-in-Some-clause-none : goal.returns-in_err-began-in-Some-clause-none
+returns-in_err-began-in-Some-clause-none g c = let q = err_from_is_err_and c.from_residual-in_err-began-in-Some.result c.from_residual-in_err-began-in-Some.ensures.1 in rw q.1 tt
+
+pub returns-in-None-began-clause-kept : goal.returns-in-None-began-clause-kept
+returns-in-None-began-clause-kept g c = record { fit = c.start_line.ensures.kept.fit; aside = c.start_line.ensures.kept.aside ∙ c.next_line.ensures.kept.aside }
+
+pub returns-in-None-began-clause-same : goal.returns-in-None-began-clause-same
+returns-in-None-began-clause-same g c = c.line_at.ensures.same
+
+pub returns-in-Some-began-clause-kept : goal.returns-in-Some-began-clause-kept
+returns-in-Some-began-clause-kept g c = record { fit = c.start_line.ensures.kept.fit; aside = c.start_line.ensures.kept.aside ∙ c.next_line.ensures.kept.aside }
+
+pub returns-in-Some-began-clause-same : goal.returns-in-Some-began-clause-same
+returns-in-Some-began-clause-same g c = c.line_at.ensures.same
+
+pub start_line-requires : goal.start_line-requires
+start_line-requires g c = record { fit = c.next_line.ensures.kept.fit }
+
+pub returns-in_err-next-clause-kept : goal.returns-in_err-next-clause-kept
+returns-in_err-next-clause-kept g c = c.next_line.ensures.kept
+
+pub returns-in_err-next-clause-same : goal.returns-in_err-next-clause-same
+returns-in_err-next-clause-same g c = refl
+
+pub returns-in_err-next-clause-works : goal.returns-in_err-next-clause-works
+returns-in_err-next-clause-works g c = works-looks (IsBasisOf (program_tree c.args.checked.now) c.args.before (g.L.Lines.lines c.args.lines.now)) g.A.Access.may_come (g.A.Access.sight c.args.access.now) (g.A.Access.sight c.next_line.new.access) c.next_line.ensures.looked
+
+pub returns-in_err-next-clause-crew : goal.returns-in_err-next-clause-crew
+returns-in_err-next-clause-crew g c = let q = err_from_is_err_and c.from_residual.result c.from_residual.ensures.1 in rw q.1 tt
+
+pub returns-in_err-next-clause-past : goal.returns-in_err-next-clause-past
+returns-in_err-next-clause-past g c = let q = err_from_is_err_and c.from_residual.result c.from_residual.ensures.1 in rw q.1 tt
+
+pub returns-in_err-next-clause-none : goal.returns-in_err-next-clause-none
+returns-in_err-next-clause-none g c = let q = err_from_is_err_and c.from_residual.result c.from_residual.ensures.1 in rw q.1 tt
+
+pub returns-in-None-clause-none : goal.returns-in-None-clause-none
+returns-in-None-clause-none g c = λ is. refl
+
+pub returns-in-None-began-clause-past : goal.returns-in-None-began-clause-past
+returns-in-None-began-clause-past g c = λ is. cc
+
+pub returns-in-None-began-clause-none : goal.returns-in-None-began-clause-none
+returns-in-None-began-clause-none g c = λ is. cc
+
+pub returns-in-Some-began-clause-past : goal.returns-in-Some-began-clause-past
+returns-in-Some-began-clause-past g c = λ is. cc
+
+pub returns-in-Some-began-clause-none : goal.returns-in-Some-began-clause-none
+returns-in-Some-began-clause-none g c = λ is. cc
