@@ -259,8 +259,6 @@ does-finish p u e units waiting new wants changes over waits kept recent opens =
     (λ w s r a. (λ i. wanted_of u (s.units i).wants) ∙ ap (wanted_of u) (sym waits)) kept recent opens
 
 -- the room and the copies of a finish change nothing
-pub keeps-prepared : (p q : Parts) (u : UnitNo) → is_running (phase_in p.units u) ≡ true → q.units ≡ p.units → q.cells ≡ p.cells → q.waiting.items ≡ p.waiting.items → q.batches ≡ p.batches → q.batch ≡ p.batch → q.doubt ≡ p.doubt →
-    q.entries ≡ p.entries → q.learn ≡ p.learn → q.last ≡ p.last → ((x : UnitNo) (g : GrainId) → (x ≡ u → ⊥) → handed_in q.handed x g ≡ handed_in p.handed x g) → KeepsMeaning p q
-keeps-prepared p q u runs units cells waiting batches batch doubt entries learn last others =
-    subst (KeepsMeaning p) (λ i. record { units = sym units i; cells = sym cells i; waiting = q.waiting; batches = sym batches i; batch = sym batch i; doubt = sym doubt i; entries = sym entries i; learn = sym learn i; last = sym last i; handed = q.handed })
-    (keeps-handed p q.waiting q.handed u runs waiting others)
+pub keeps-prepared : (p q : Parts) (u : UnitNo) → is_running (phase_in p.units u) ≡ true → q ≡ record p { waiting = q.waiting; handed = q.handed } → q.waiting.items ≡ p.waiting.items →
+    ((x : UnitNo) (g : GrainId) → (x ≡ u → ⊥) → handed_in q.handed x g ≡ handed_in p.handed x g) → KeepsMeaning p q
+keeps-prepared p q u runs rest waiting others = subst (KeepsMeaning p) (sym rest) (keeps-handed p q.waiting q.handed u runs waiting others)

@@ -37,6 +37,10 @@ use Rattle.history_core.proofs.MemoryCells.{holds-is}
 pub are-units : (p : Parts) (w : CoreState) → PartsStand p w → AreUnits p.waiting.items w (waiting w)
 are-units p w s = record { effects = s.effects; sources = s.sources }
 
+-- by copies of the grains that it read
+pub free-by : (p : Parts) (e : Effect) (told : Bool) (reads : List Read) → told ≡ all (λ (r : Read). not (holds_lock e.unit (cell_in p.cells r.grain).holds)) reads → reads ≡ e.reads → told ≡ is_free_by p e
+free-by p e told reads is same = is ∙ ap (λ (rs : List Read). all (λ (r : Read). not (holds_lock e.unit (cell_in p.cells r.grain).holds)) rs) same
+
 free-is : (p : Parts) (w : CoreState) → PartsStand p w → (u : UnitNo) → is_free_by p (effect_of w u) ≡ is_free w u
 free-is p w s u = λ i. all (λ (r : Read). not (holds_lock u (sym (holds-is p.cells w.cells s.cells) i r.grain))) (w.units.reads u)
 

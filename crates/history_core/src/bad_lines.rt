@@ -8,6 +8,7 @@ ghost use Rattle.history_core.specs.KeptParts.{PartsStand};
 ghost use Rattle.history_core.specs.Steps.{CanDo, KeepsMeaning, Tells, Does};
 
 use crate::parts::Parts;
+use crate::room::owed;
 use base_types::{BadRequest, Entry, Settled, UnitNo};
 use core_model::CoreReply;
 use std::alloc::AllocError;
@@ -34,7 +35,7 @@ impl Parts {
         ensures err { OnErr result (KeepsMeaning self.old self.new) }
         ensures opens { opens_with self.new.cells ≡ opens_with self.old.cells }
     {
-        let room = self.owed() + 1;
+        let room = owed(&self.batch) + 1;
         self.entries.reserve(room)?;
         self.entries.push(Entry {
             line,

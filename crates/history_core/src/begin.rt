@@ -1,12 +1,14 @@
 // A unit begins.
-ghost use Rattle.std.specs.Prelude.{◌≡◌, Bool, IfOk, IfErr, OnErr};
+ghost use Rattle.std.specs.Prelude.{◌≡◌, Bool, is_some, IfOk, IfErr, OnErr};
 ghost use Rattle.std.specs.List.{list_all};
 ghost use Rattle.base_types.specs.declared.calls.Call.{Call};
+ghost use Rattle.base_types.specs.declared.calls.UnitNo.{UnitNo as AUnit};
 ghost use Rattle.core_model.specs.CoreState.{CoreState};
 ghost use Rattle.core_model.specs.Events.{can_begin};
 ghost use Rattle.core_model.specs.declared.events.CoreEvent.TheVariants.{Begin};
 ghost use Rattle.cell_table.specs.Table.{opens_with};
-ghost use Rattle.history_core.specs.LockAnswers.{is_decided_in, is_next_child_in};
+ghost use Rattle.unit_table.specs.Table.{outcome_known};
+ghost use Rattle.history_core.specs.LockAnswers.{is_next_child_in};
 ghost use Rattle.history_core.specs.KeptParts.{PartsStand};
 ghost use Rattle.history_core.specs.Steps.{CanDo, KeepsMeaning, Tells, Does};
 
@@ -15,6 +17,7 @@ use crate::steps::fits_line;
 use base_types::{Call, Origin, UnitNo};
 use core_model::{CoreEvent, CoreReply};
 use std::alloc::AllocError;
+use unit_table::UnitTable;
 
 impl Parts {
     // Whether a unit can begin there, and no stop stands.
@@ -42,14 +45,7 @@ impl Parts {
             return false;
         }
         let kids = self.units.kids(parent);
-        u64::from(index) == kids.len() as u64 && self.are_decided(kids)
-    }
-
-    // Whether these units are decided.
-    pub(crate) fn are_decided(&self, units: &[UnitNo]) -> bool
-        ensures { result ≡ list_all (is_decided_in self.now) units.now }
-    {
-        units.iter().all(|unit| self.units.is_decided(*unit))
+        u64::from(index) == kids.len() as u64 && are_decided(&self.units, kids)
     }
 
     // The next number becomes a running unit.
@@ -80,4 +76,16 @@ impl Parts {
         let unit = self.units.begin(origin, call, plain);
         Ok(CoreReply::Began { unit })
     }
+}
+
+// Whether these units are decided.
+fn are_decided(units: &UnitTable, kids: &[UnitNo]) -> bool
+    ensures { result ≡ list_all (λ (u : AUnit). is_some (outcome_known units.now u)) kids.now }
+{
+    for kid in kids {
+        if !units.is_decided(*kid) {
+            return false;
+        }
+    }
+    true
 }

@@ -17,7 +17,7 @@ use crate::batch_closing::Closing;
 use crate::parts::Parts;
 use cell_model::Decision;
 use core_model::{CoreReply, Verdict};
-use open_batch::FinishedUnit;
+use open_batch::{FinishedUnit, OpenBatch};
 use unit_table::UnitTable;
 
 impl Parts {
@@ -25,17 +25,7 @@ impl Parts {
     pub(crate) fn can_decide(&self, number: u64) -> bool
         ensures { Tells self.now (Decide number) result }
     {
-        self.is_going() && self.may_decide(number)
-    }
-
-    // Whether that batch is open and undecided, and all its votes are there.
-    fn may_decide(&self, number: u64) -> bool
-        ensures { result ≡ may_decide_in self.now.batch number }
-    {
-        match &self.batch {
-            None => false,
-            Some(batch) => batch.number() == number && batch.is_open() && batch.is_voted(),
-        }
+        self.is_going() && may_decide(&self.batch, number)
     }
 
     // The batch is decided; with nothing to commit it closes at once. Takes no memory.
@@ -104,5 +94,15 @@ fn verdict_of(decision: &Decision) -> Verdict
     match decision {
         Decision::Commit => Verdict::Chosen,
         Decision::Vote { .. } | Decision::Dependency { .. } => Verdict::Condemned,
+    }
+}
+
+// Whether that batch is open and undecided, and all its votes are there.
+fn may_decide(batch: &Option<OpenBatch>, number: u64) -> bool
+    ensures { result ≡ may_decide_in batch.now number }
+{
+    match batch {
+        None => false,
+        Some(batch) => batch.number() == number && batch.is_open() && batch.is_voted(),
     }
 }

@@ -75,7 +75,7 @@ impl Parts {
         match event {
             CoreEvent::Bad { line, why } => {
                 let done = self.bad(line, why);
-                back(done, CoreEvent::Bad { line, why })
+                back(done, event)
             }
             CoreEvent::Begin {
                 origin,
@@ -84,11 +84,11 @@ impl Parts {
             } => self.begin(origin, call, plain),
             CoreEvent::Grant { unit, grain, mode } => {
                 let done = self.grant(unit, grain, mode);
-                back(done, CoreEvent::Grant { unit, grain, mode })
+                back(done, event)
             }
             CoreEvent::Refuse { unit, grain, mode } => {
                 let done = self.refuse(unit, grain, mode);
-                back(done, CoreEvent::Refuse { unit, grain, mode })
+                back(done, event)
             }
             CoreEvent::Finish { unit, effect } => self.finish(unit, effect),
             CoreEvent::EndPlain { unit, effect } => self.end_plain(unit, effect),
@@ -96,7 +96,7 @@ impl Parts {
             CoreEvent::Release { unit, grain } => Ok(self.release(unit, grain)),
             CoreEvent::Take => {
                 let done = self.take();
-                back(done, CoreEvent::Take)
+                back(done, event)
             }
             CoreEvent::Vote { batch, grain, yes } => Ok(self.vote(batch, grain, yes)),
             CoreEvent::Decide { batch } => Ok(self.decide(batch)),
@@ -108,7 +108,7 @@ impl Parts {
             CoreEvent::Halt => Ok(self.halt()),
             CoreEvent::Want { unit, grain } => {
                 let done = self.want(unit, grain);
-                back(done, CoreEvent::Want { unit, grain })
+                back(done, event)
             }
             CoreEvent::Load { grain, unit, state } => {
                 let done = self.load(grain, unit, &state);

@@ -10,7 +10,7 @@ use crate::parts::Parts;
 use base_types::{Outcome, UnitNo};
 use core_model::{Effect, Phase, Verdict};
 use core_parts::Same;
-use unit_table::RunningUnit;
+use unit_table::{RunningUnit, UnitTable};
 
 impl Parts {
     // Whether the effect is of the unit's call, with its children's outcomes.
@@ -20,60 +20,64 @@ impl Parts {
         effect.unit == unit
             && effect.origin.is_same(&running.origin)
             && effect.call.is_same(&running.call)
-            && self.are_answers(running.kids.as_slice(), effect.answers.as_slice())
+            && are_answers(
+                &self.units,
+                running.kids.as_slice(),
+                effect.answers.as_slice(),
+            )
     }
+}
 
-    // Whether these units are decided, with these outcomes, which are kept.
-    fn are_answers(&self, units: &[UnitNo], answers: &[Outcome]) -> bool
-        ensures { result ≡ answered_in (outcome_kept self.now.units) units.now answers.now }
-    {
-        if units.len() != answers.len() {
+// Whether these units are decided, with these outcomes, which are kept.
+fn are_answers(table: &UnitTable, units: &[UnitNo], answers: &[Outcome]) -> bool
+    ensures { result ≡ answered_in (outcome_kept table.now) units.now answers.now }
+{
+    if units.len() != answers.len() {
+        return false;
+    }
+    for at in 0..units.len() {
+        if !is_answer(table, units[at], &answers[at]) {
             return false;
         }
-        for at in 0..units.len() {
-            if !self.is_answer(units[at], &answers[at]) {
-                return false;
-            }
-        }
-        true
     }
+    true
+}
 
-    // Whether the unit is decided, with that outcome, which is kept.
-    fn is_answer(&self, unit: UnitNo, answer: &Outcome) -> bool
-        ensures { result ≡ is_answer (outcome_kept self.now.units unit) answer.now }
-    {
-        if self.units.is_past(unit) {
-            return false;
-        }
-        self.is_kept_answer(unit, answer)
+// Whether the unit is decided, with that outcome, which is kept.
+fn is_answer(table: &UnitTable, unit: UnitNo, answer: &Outcome) -> bool
+    ensures { result ≡ is_answer (outcome_kept table.now unit) answer.now }
+{
+    if table.is_past(unit) {
+        return false;
     }
+    is_kept_answer(table, unit, answer)
+}
 
-    // Whether a unit whose result is kept is decided, with that outcome.
-    fn is_kept_answer(&self, unit: UnitNo, answer: &Outcome) -> bool
-        requires { is_past self.now.units unit ≡ false }
-        ensures { result ≡ is_answer (outcome_known self.now.units unit) answer.now }
-    {
-        match self.units.phase(unit) {
-            Phase::Unborn | Phase::Running => false,
-            Phase::Refused => Outcome::Aborted.is_same(answer),
-            Phase::Ended => self.has_result(unit, answer),
-            Phase::Finished => match self.units.verdict(unit) {
-                Verdict::Open | Verdict::Chosen | Verdict::Condemned => false,
-                Verdict::Committed => self.has_result(unit, answer),
-                Verdict::Aborted => Outcome::Aborted.is_same(answer),
-            },
-        }
+// Whether a unit whose result is kept is decided, with that outcome.
+fn is_kept_answer(table: &UnitTable, unit: UnitNo, answer: &Outcome) -> bool
+    requires { is_past table.now unit ≡ false }
+    ensures { result ≡ is_answer (outcome_known table.now unit) answer.now }
+{
+    match table.phase(unit) {
+        Phase::Unborn | Phase::Running => false,
+        Phase::Refused => Outcome::Aborted.is_same(answer),
+        Phase::Ended => has_result(table, unit, answer),
+        Phase::Finished => match table.verdict(unit) {
+            Verdict::Open | Verdict::Chosen | Verdict::Condemned => false,
+            Verdict::Committed => has_result(table, unit, answer),
+            Verdict::Aborted => Outcome::Aborted.is_same(answer),
+        },
     }
+}
 
-    // Whether a unit that is over, and whose result is kept, has that result.
-    fn has_result(&self, unit: UnitNo, answer: &Outcome) -> bool
-        requires over { is_over (phase_in self.now.units unit) ≡ true }
-        requires kept { is_past self.now.units unit ≡ false }
-        ensures { result ≡ same_outcome (result_in self.now.units unit) answer.now }
-    {
-        match self.units.result(unit) {
-            Some(result) => result.is_same(answer),
-            None => false,
-        }
+// Whether a unit that is over, and whose result is kept, has that result.
+fn has_result(table: &UnitTable, unit: UnitNo, answer: &Outcome) -> bool
+    requires over { is_over (phase_in table.now unit) ≡ true }
+    requires kept { is_past table.now unit ≡ false }
+    ensures { result ≡ same_outcome (result_in table.now unit) answer.now }
+{
+    match table.result(unit) {
+        Some(result) => result.is_same(answer),
+        None => false,
     }
 }

@@ -16,6 +16,7 @@ ghost use Rattle.history_core.specs.Steps.{CanDo, KeepsMeaning, Tells, Does};
 
 use crate::parts::Parts;
 use crate::refuse::settle;
+use crate::room::owed;
 use base_types::{Outcome, Settled, UnitNo};
 use core_model::{CoreEvent, CoreReply, Effect};
 use std::alloc::AllocError;
@@ -78,7 +79,7 @@ impl Parts {
         ensures units { self.new.units ≡ self.old.units }
         ensures opens { opens_with self.new.cells ≡ opens_with self.old.cells }
     {
-        let room = self.owed() + 1;
+        let room = owed(&self.batch) + 1;
         self.entries.reserve(room)?;
         outcome.copy()
     }

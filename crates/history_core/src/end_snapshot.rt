@@ -12,24 +12,14 @@ use base_types::{Outcome, UnitNo};
 use core_model::{CoreEvent, CoreReply};
 use core_parts::Same;
 use std::alloc::AllocError;
-use unit_table::RunningUnit;
+use unit_table::{RunningUnit, UnitTable};
 
 impl Parts {
     // Whether a running plain run without children may end so, and no stop stands.
     pub(crate) fn can_end_snapshot(&self, unit: UnitNo, outcome: &Outcome) -> bool
         ensures { (at : ℕ) → Tells self.now (EndSnapshot unit at outcome.now) result }
     {
-        self.is_going() && self.may_end_snapshot(unit, outcome)
-    }
-
-    // Whether that is a running plain run without children, and the outcome no abort.
-    fn may_end_snapshot(&self, unit: UnitNo, outcome: &Outcome) -> bool
-        ensures { result ≡ ends_as_snapshot outcome.now (known_in self.now.units unit) }
-    {
-        match self.units.running(unit) {
-            None => false,
-            Some(running) => may_end(running, outcome),
-        }
+        self.is_going() && may_end_snapshot(&self.units, unit, outcome)
     }
 
     // The plain run has ended, and its line is settled. How many records it saw isn't kept.
@@ -60,4 +50,14 @@ fn may_end(running: &RunningUnit, outcome: &Outcome) -> bool
     ensures { result ≡ ends_as_snapshot outcome.now (known_running running.now) }
 {
     running.plain && running.kids.is_empty() && !outcome.is_same(&Outcome::Aborted)
+}
+
+// Whether that is a running plain run without children, and the outcome no abort.
+fn may_end_snapshot(units: &UnitTable, unit: UnitNo, outcome: &Outcome) -> bool
+    ensures { result ≡ ends_as_snapshot outcome.now (known_in units.now unit) }
+{
+    match units.running(unit) {
+        None => false,
+        Some(running) => may_end(running, outcome),
+    }
 }

@@ -16,6 +16,7 @@ ghost use Rattle.history_core.specs.Steps.{CanDo, KeepsMeaning, Tells, Does};
 
 use crate::parts::Parts;
 use base_types::{GrainId, Outcome, State, UnitNo};
+use cell_table::CellTable;
 use core_model::{CoreEvent, CoreReply, Effect, Read};
 use core_parts::{HandedStates, same_items};
 use open_batch::FinishedUnit;
@@ -47,16 +48,7 @@ impl Parts {
         !running.plain
             && self.is_of_call(unit, running, effect)
             && same_items(effect.reads.as_slice(), running.reads.as_slice())
-            && self.hold_alone(unit, effect.writes.as_slice())
-    }
-
-    // Whether the unit has each written grain alone.
-    fn hold_alone(&self, unit: UnitNo, writes: &[(GrainId, State)]) -> bool
-        ensures { result ≡ list_all (λ x. holds_alone unit (cell_in self.now.cells x.0).holds) writes.now }
-    {
-        writes
-            .iter()
-            .all(|write| self.cells.is_held_alone_by(unit, write.0))
+            && holds_all_alone(&self.cells, unit, effect.writes.as_slice())
     }
 
     // The transaction takes the last place in the finish order, and what it wrote is kept until its locks are given back. What it
@@ -91,21 +83,26 @@ impl Parts {
         ensures handed { OnOk result (handed_in self.new.handed ≡ with_writes (cleared (handed_in self.old.handed) unit effect.now.reads) unit
             effect.now.writes) }
         ensures others { (x : UnitNo) (g : GrainId) → (x ≡ unit → ⊥) → handed_in self.new.handed x g ≡ handed_in self.old.handed x g }
-        ensures units { self.new.units ≡ self.old.units }
-        ensures cells { self.new.cells ≡ self.old.cells }
-        ensures batches { self.new.batches ≡ self.old.batches }
-        ensures batch { self.new.batch ≡ self.old.batch }
-        ensures doubt { self.new.doubt ≡ self.old.doubt }
-        ensures entries { self.new.entries ≡ self.old.entries }
-        ensures learn { self.new.learn ≡ self.old.learn }
-        ensures last { self.new.last ≡ self.old.last }
+        ensures rest { self.new ≡ record self.old { waiting = self.new.waiting; handed = self.new.handed } }
     {
         self.waiting.reserve(1)?;
-        let outcome = effect.result.copy()?;
         clear(&mut self.handed, unit, effect.reads.as_slice());
         hand(&mut self.handed, unit, effect.writes.as_slice())?;
+        let outcome = effect.result.copy()?;
         Ok(outcome)
     }
+}
+
+// Whether the unit has each written grain alone.
+fn holds_all_alone(cells: &CellTable, unit: UnitNo, writes: &[(GrainId, State)]) -> bool
+    ensures { result ≡ list_all (λ x. holds_alone unit (cell_in cells.now x.0).holds) writes.now }
+{
+    for write in writes {
+        if !cells.is_held_alone_by(unit, write.0) {
+            return false;
+        }
+    }
+    true
 }
 
 // Lets go what is kept of the unit for the grains that it read.

@@ -1,5 +1,5 @@
 // A unit locks a grain, or raises its lock.
-ghost use Rattle.std.specs.Prelude.{◌≡◌, ◌<◌, Some, true, false, not, find, map, IfOk, OnErr};
+ghost use Rattle.std.specs.Prelude.{◌≡◌, ◌<◌, Some, true, false, not, find, map, IfOk, OnOk, OnErr};
 ghost use Rattle.base_types.specs.declared.stores.Version.{Version as AVersion};
 ghost use Rattle.cell_model.specs.declared.locks.Ask.TheVariants.{Free};
 ghost use Rattle.cell_model.specs.Locks.{ask, holds_lock};
@@ -10,6 +10,7 @@ ghost use Rattle.core_model.specs.Tests.{is_aborted};
 ghost use Rattle.core_model.specs.Events as events;
 ghost use Rattle.core_model.specs.Events.{is_free_answer};
 ghost use Rattle.core_model.specs.declared.events.CoreEvent.TheVariants.{Grant};
+ghost use Rattle.core_model.specs.declared.events.CoreReply.TheVariants as replies;
 ghost use Rattle.cell_table.specs.Table.{cell_in, cells_kept, has_cell, opens_with, spare_in};
 ghost use Rattle.unit_table.specs.Table.{verdict_in};
 ghost use Rattle.grain_cell.specs.Room.{without_aborted};
@@ -24,6 +25,7 @@ use cell_table::CellTable;
 use core_model::{AskAnswer, CoreReply, Read, Verdict};
 use grain_cell::Granted;
 use std::alloc::AllocError;
+use unit_table::UnitTable;
 
 impl Parts {
     // Whether the lock can be had, and no stop stands.
@@ -60,7 +62,7 @@ impl Parts {
         let Some(cell) = self.cells.cell(grain) else {
             return Err(AllocError);
         };
-        let aborted = self.first_aborted(cell.versions());
+        let aborted = first_aborted(&self.units, cell.versions());
         let found = cell.top_over(aborted)?;
         if cell.is_held_by(unit) {
             lock_over(&mut self.cells, unit, grain, mode, aborted);
@@ -69,8 +71,11 @@ impl Parts {
                 source: found.source,
             });
         }
-        let reply = self.lock_first(unit, grain, mode, aborted, found)?;
-        Ok(reply)
+        self.lock_first(unit, grain, mode, aborted, &found)?;
+        Ok(CoreReply::Granted {
+            state: found.state,
+            source: found.source,
+        })
     }
 
     // The unit's first lock of a grain that has a cell, with room for it: what was found there is read, and the grain is used.
@@ -80,55 +85,30 @@ impl Parts {
         grain: GrainId,
         mode: Mode,
         aborted: Option<UnitNo>,
-        found: Granted,
-    ) -> Result<CoreReply, AllocError>
+        found: &Granted,
+    ) -> Result<(), AllocError>
         requires can { CanDo self.old (Grant unit grain mode) }
         requires cell { has_cell self.old.cells grain ≡ true }
         requires room { 0 < spare_in self.old.cells grain }
         requires first { holds_lock unit (cell_in self.old.cells grain).holds ≡ false }
         requires cleans { Cleans self.old grain aborted }
-        requires newest { record { unit = found.source; state = found.state } ≡ top (without_aborted aborted (cell_in self.old.cells grain).stack) }
-        ensures ok { IfOk result (λ reply. Does self.old (Grant unit grain mode) reply self.new) }
+        requires newest { record { unit = found.now.source; state = found.now.state } ≡ top (without_aborted aborted (cell_in self.old.cells grain).stack) }
+        ensures ok { OnOk result (Does self.old (Grant unit grain mode) (replies.Granted found.now.state found.now.source) self.new) }
         ensures err { OnErr result (KeepsMeaning self.old self.new) }
         ensures opens { opens_with self.new.cells ≡ opens_with self.old.cells }
     {
+        self.units.reserve_read(unit)?;
         let read = Read {
             grain,
             state: found.state.copy()?,
             source: found.source,
         };
-        self.units.reserve_read(unit)?;
         let left = self.cells.touch(grain)?;
         let depends = !self.is_sure(found.source);
         lock_over(&mut self.cells, unit, grain, mode, aborted);
         self.units.note_read(unit, read, depends);
         evict_left(&mut self.cells, left, self.units.wants());
-        Ok(CoreReply::Granted {
-            state: found.state,
-            source: found.source,
-        })
-    }
-
-    // The first of these versions' units that is aborted.
-    fn first_aborted(&self, versions: &[Version]) -> Option<UnitNo>
-        ensures { result ≡ find (λ u. is_aborted (verdict_in self.now.units u)) (map (λ (v : AVersion). v.unit) versions.now) }
-    {
-        for version in versions {
-            if self.is_aborted(version.unit) {
-                return Some(version.unit);
-            }
-        }
-        None
-    }
-
-    // Whether the unit is aborted.
-    fn is_aborted(&self, unit: UnitNo) -> bool
-        ensures { result ≡ is_aborted (verdict_in self.now.units unit) }
-    {
-        match self.units.verdict(unit) {
-            Verdict::Aborted => true,
-            Verdict::Open | Verdict::Chosen | Verdict::Condemned | Verdict::Committed => false,
-        }
+        Ok(())
     }
 
     // Whether the unit is nobody or committed.
@@ -142,6 +122,28 @@ impl Parts {
             Verdict::Committed => true,
             Verdict::Open | Verdict::Chosen | Verdict::Condemned | Verdict::Aborted => false,
         }
+    }
+}
+
+// The first of these versions' units that is aborted.
+fn first_aborted(units: &UnitTable, versions: &[Version]) -> Option<UnitNo>
+    ensures { result ≡ find (λ u. is_aborted (verdict_in units.now u)) (map (λ (v : AVersion). v.unit) versions.now) }
+{
+    for version in versions {
+        if is_aborted(units, version.unit) {
+            return Some(version.unit);
+        }
+    }
+    None
+}
+
+// Whether the unit is aborted.
+fn is_aborted(units: &UnitTable, unit: UnitNo) -> bool
+    ensures { result ≡ is_aborted (verdict_in units.now unit) }
+{
+    match units.verdict(unit) {
+        Verdict::Aborted => true,
+        Verdict::Open | Verdict::Chosen | Verdict::Condemned | Verdict::Committed => false,
     }
 }
 

@@ -8,8 +8,10 @@ ghost use Rattle.history_core.specs.KeptParts.{PartsStand, StandsForReached, mem
 ghost use Rattle.history_core.specs.Questions.{AnswersQuestion};
 
 use crate::parts::Parts;
+use crate::room::owed;
 use base_types::{Entry, Outcome};
 use core_model::{BatchView, CoreAnswer, CoreQuestion, KnownOutcome};
+use core_parts::EntryList;
 use open_batch::FinishedUnit;
 use std::alloc::AllocError;
 
@@ -37,7 +39,7 @@ impl Parts {
             CoreQuestion::CanTake => Ok(CoreAnswer::CanTake(self.can_take())),
             CoreQuestion::NextLine => Ok(CoreAnswer::NextLine(self.units.lines() + 1)),
             CoreQuestion::NextSettled => {
-                let entry = self.next_entry()?;
+                let entry = next_entry(&self.entries)?;
                 Ok(CoreAnswer::NextSettled(entry))
             }
             CoreQuestion::Halted => Ok(CoreAnswer::Halted(self.is_stopped())),
@@ -71,21 +73,8 @@ impl Parts {
         requires { StandsForReached self.now }
         ensures { result.now ≡ members_in self.now }
     {
-        let size = self.owed();
+        let size = owed(&self.batch);
         &self.waiting[..size]
-    }
-
-    // The first settled entry that isn't written.
-    fn next_entry(&self) -> Result<Option<Entry>, AllocError>
-        ensures { IfOk result (λ entry. entry ≡ slice_get self.now.entries.entries self.now.entries.emitted) }
-    {
-        match self.entries.next() {
-            None => Ok(None),
-            Some(entry) => {
-                let entry = entry.copy()?;
-                Ok(Some(entry))
-            }
-        }
     }
 
     // Whether the run is to stop, or a batch is in doubt.
@@ -103,5 +92,18 @@ fn known(outcome: Option<Outcome>) -> KnownOutcome
     match outcome {
         None => KnownOutcome::Undecided,
         Some(outcome) => KnownOutcome::Decided(outcome),
+    }
+}
+
+// The first settled entry that isn't written.
+fn next_entry(entries: &EntryList) -> Result<Option<Entry>, AllocError>
+    ensures { IfOk result (λ entry. entry ≡ slice_get entries.now.entries entries.now.emitted) }
+{
+    match entries.next() {
+        None => Ok(None),
+        Some(entry) => {
+            let entry = entry.copy()?;
+            Ok(Some(entry))
+        }
     }
 }

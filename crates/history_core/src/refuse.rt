@@ -8,6 +8,7 @@ ghost use Rattle.unit_table.specs.Table.{phase_in, origin_in};
 ghost use Rattle.history_core.specs.Steps.{CanDo, KeepsMeaning, Tells, Does};
 
 use crate::parts::Parts;
+use crate::room::owed;
 use base_types::{Entry, GrainId, Mode, Origin, Settled, UnitNo};
 use core_model::{AskAnswer, CoreReply};
 use core_parts::EntryList;
@@ -33,7 +34,7 @@ impl Parts {
         ensures err { OnErr result (KeepsMeaning self.old self.new) }
         ensures opens { opens_with self.new.cells ≡ opens_with self.old.cells }
     {
-        let room = self.owed() + 1;
+        let room = owed(&self.batch) + 1;
         self.entries.reserve(room)?;
         let Some(why) = cause_of(self.ask(unit, grain, mode), grain) else {
             unreachable!()

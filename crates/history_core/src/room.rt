@@ -2,17 +2,15 @@
 ghost use Rattle.std.specs.Prelude.{◌≡◌, ◌≤◌};
 ghost use Rattle.history_core.specs.KeptParts.{owed_in};
 
-use crate::parts::Parts;
+use open_batch::OpenBatch;
 
-impl Parts {
-    // How many entries the open batch may still need.
-    pub(crate) fn owed(&self) -> usize
-        ensures size { result ≡ owed_in self.now.batch }
-        ensures most { result ≤ 64 }
-    {
-        match &self.batch {
-            Some(batch) => batch.size(),
-            None => 0,
-        }
+// How many entries the open batch may still need.
+pub(crate) fn owed(batch: &Option<OpenBatch>) -> usize
+    ensures size { result ≡ owed_in batch.now }
+    ensures most { result ≤ 64 }
+{
+    match batch {
+        Some(batch) => batch.size(),
+        None => 0,
     }
 }

@@ -8,6 +8,7 @@ ghost use Rattle.history_core.specs.Steps.{CanDo, Tells, Does};
 use crate::batch_closing::Closing;
 use crate::parts::Parts;
 use core_model::CoreReply;
+use open_batch::OpenBatch;
 
 impl Parts {
     // Whether that batch is open and decided, and no batch is in doubt.
@@ -16,17 +17,7 @@ impl Parts {
         ensures not_sealed { Tells self.now (NotSealed number) result }
         ensures doubt { Tells self.now (Doubt number) result }
     {
-        self.is_known() && self.is_judged(number)
-    }
-
-    // Whether that batch is open and decided.
-    fn is_judged(&self, number: u64) -> bool
-        ensures { result ≡ is_judged_in self.now.batch number }
-    {
-        match &self.batch {
-            None => false,
-            Some(batch) => batch.number() == number && !batch.is_open(),
-        }
+        self.is_known() && is_judged(&self.batch, number)
     }
 
     // The batch is on disk: who was to commit is committed. Takes no memory.
@@ -58,5 +49,15 @@ impl Parts {
         self.close(Closing::Doubt);
         self.doubt = true;
         CoreReply::Done
+    }
+}
+
+// Whether that batch is open and decided.
+fn is_judged(batch: &Option<OpenBatch>, number: u64) -> bool
+    ensures { result ≡ is_judged_in batch.now number }
+{
+    match batch {
+        None => false,
+        Some(batch) => batch.number() == number && !batch.is_open(),
     }
 }

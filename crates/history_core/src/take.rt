@@ -1,20 +1,24 @@
 // A batch is taken.
-ghost use Rattle.std.specs.Prelude.{◌≡◌, ◌≤◌, nat_lt, length, map, take, None, IfOk, OnOk, OnErr};
+ghost use Rattle.std.specs.Prelude.{◌≡◌, ◌≤◌, nat_lt, length, map, take, None, not, IfOk, OnOk, OnErr};
+ghost use Rattle.std.specs.List.{list_all};
+ghost use Rattle.cell_model.specs.Locks.{holds_lock};
 ghost use Rattle.core_model.specs.CoreState.{CoreState};
+ghost use Rattle.core_model.specs.declared.effects.Read.{Read as ARead};
 ghost use Rattle.core_model.specs.declared.events.CoreEvent.TheVariants.{Take};
 ghost use Rattle.core_model.specs.Events.{batch_size};
-ghost use Rattle.cell_table.specs.Table.{opens_with};
+ghost use Rattle.cell_table.specs.Table.{cell_in, opens_with};
 ghost use Rattle.core_parts.specs.States.{last_in, has_place, KeepsPlaces};
 ghost use Rattle.open_batch.specs.Members.{effect_in};
 ghost use Rattle.history_core.specs.KeptParts.{PartsStand, writes_in, AllPlaced};
 ghost use Rattle.history_core.specs.ClosedUnits.{ArePlaced};
-ghost use Rattle.history_core.specs.UnitsWithoutLocks.{is_free_by, front_by};
+ghost use Rattle.history_core.specs.UnitsWithoutLocks.{front_by};
 ghost use Rattle.history_core.specs.Steps.{CanDo, KeepsMeaning, Tells, Does};
 ghost use Rattle.base_types.specs.declared.calls.GrainId.{GrainId as AGrain};
 
 use crate::parts::Parts;
-use base_types::{GrainId, State};
-use core_model::{CoreReply, Effect};
+use base_types::{GrainId, State, UnitNo};
+use cell_table::CellTable;
+use core_model::{CoreReply, Read};
 use core_parts::LastStates;
 use open_batch::{FinishedUnit, OpenBatch};
 use std::alloc::AllocError;
@@ -33,7 +37,11 @@ impl Parts {
     {
         match self.waiting.first() {
             None => false,
-            Some(member) => self.is_free(&member.effect),
+            Some(member) => is_free(
+                &self.cells,
+                member.effect.unit,
+                member.effect.reads.as_slice(),
+            ),
         }
     }
 
@@ -54,23 +62,16 @@ impl Parts {
     {
         let mut size = 0;
         for member in members {
-            if !self.is_free(&member.effect) {
+            if !is_free(
+                &self.cells,
+                member.effect.unit,
+                member.effect.reads.as_slice(),
+            ) {
                 return size;
             }
             size += 1;
         }
         size
-    }
-
-    // Whether the unit holds none of the grains that it read.
-    fn is_free(&self, effect: &Effect) -> bool
-        ensures { result ≡ is_free_by self.now effect.now }
-    {
-        effect
-            .reads
-            .as_slice()
-            .iter()
-            .all(|read| !self.cells.is_held_by(effect.unit, read.grain))
     }
 
     // The batch is opened, with all the room that it will need.
@@ -111,6 +112,18 @@ impl Parts {
         self.learn.reserve(count)?;
         place_all(&mut self.last, &self.waiting[..size])
     }
+}
+
+// Whether the unit holds none of the grains that it read.
+fn is_free(cells: &CellTable, unit: UnitNo, reads: &[Read]) -> bool
+    ensures { result ≡ list_all (λ (r : ARead). not (holds_lock unit (cell_in cells.now r.grain).holds)) reads.now }
+{
+    for read in reads {
+        if cells.is_held_by(unit, read.grain) {
+            return false;
+        }
+    }
+    true
 }
 
 // The first 64 at most.

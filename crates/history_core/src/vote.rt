@@ -15,17 +15,7 @@ impl Parts {
     pub(crate) fn can_vote(&self, number: u64, grain: GrainId) -> bool
         ensures { (kept : Bool) → Tells self.now (Vote number grain kept) result }
     {
-        self.is_going() && self.may_vote(number, grain)
-    }
-
-    // Whether that batch is open and undecided, and planned work on that grain has no vote.
-    fn may_vote(&self, number: u64, grain: GrainId) -> bool
-        ensures { result ≡ may_vote_in self.now.batch number grain }
-    {
-        match &self.batch {
-            None => false,
-            Some(batch) => batch.number() == number && batch.is_open() && batch.may_vote(grain),
-        }
+        self.is_going() && may_vote(&self.batch, number, grain)
     }
 
     // Keeps the vote. Takes no memory.
@@ -39,5 +29,15 @@ impl Parts {
             Some(batch) => batch.vote(grain, kept),
         }
         CoreReply::Done
+    }
+}
+
+// Whether that batch is open and undecided, and planned work on that grain has no vote.
+fn may_vote(batch: &Option<OpenBatch>, number: u64, grain: GrainId) -> bool
+    ensures { result ≡ may_vote_in batch.now number grain }
+{
+    match batch {
+        None => false,
+        Some(batch) => batch.number() == number && batch.is_open() && batch.may_vote(grain),
     }
 }

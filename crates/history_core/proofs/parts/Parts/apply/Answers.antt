@@ -1,6 +1,6 @@
-use Rattle.std.proofs.Common.{refl, sym}
+use Rattle.std.proofs.Common.{refl, ap, ◌∙◌}
 use Rattle.core_model.specs.declared.events.CoreEvent.TheVariants.{Bad, Begin, Grant, Refuse, Finish, EndPlain, EndSnapshot, Release, Take, Vote, Decide, Sealed, NotSealed, Doubt, Learn, Emitted, Halt, Want, Load}
-use Rattle.history_core.specs.declared.parts.Parts.{Parts}
+use Rattle.history_core.specs.Steps.{with_event}
 use Rattle.history_core.proofs.Ways.{can-that, does-that, does-back, refused-back, does-own, refused-own}
 use Rattle.history_core.proofs.parts.Parts.apply.Goals as goal
 
@@ -77,10 +77,10 @@ pub take-done-requires : goal.take-done-requires
 take-done-requires c = record { can = can-that c.args.self.now c.args.event Take c.in-Take.is c.requires.can }
 
 pub returns-in-Take-clause-ok : goal.returns-in-Take-clause-ok
-returns-in-Take-clause-ok c = does-back c.args.self.now c.take-done.new.self c.args.event Take c.take-done.result c.back-in-Take.result c.in-Take.is c.back-in-Take.ensures c.take-done.ensures.ok
+returns-in-Take-clause-ok c = does-back c.args.self.now c.take-done.new.self c.args.event Take c.take-done.result c.back-in-Take.result c.in-Take.is (c.back-in-Take.ensures ∙ ap (with_event c.take-done.result) c.in-Take.is) c.take-done.ensures.ok
 
 pub returns-in-Take-clause-err : goal.returns-in-Take-clause-err
-returns-in-Take-clause-err c = refused-back c.args.self.now c.take-done.new.self c.args.event Take c.take-done.result c.back-in-Take.result c.in-Take.is c.back-in-Take.ensures refl c.take-done.ensures.err
+returns-in-Take-clause-err c = refused-back c.args.self.now c.take-done.new.self c.args.event Take c.take-done.result c.back-in-Take.result c.in-Take.is (c.back-in-Take.ensures ∙ ap (with_event c.take-done.result) c.in-Take.is) refl c.take-done.ensures.err
 
 pub vote-requires : goal.vote-requires
 vote-requires c = record { can = can-that c.args.self.now c.args.event (Vote c.in-Vote.batch c.in-Vote.grain c.in-Vote.yes) c.in-Vote.is c.requires.can }

@@ -2,7 +2,11 @@ use Rattle.std.proofs.Common.{◌≡◌, ◌∙◌, ◌++◌, ◌∷◌, [], Lis
 use Rattle.base_types.specs.declared.entries.Settled.TheVariants as settled
 use Rattle.core_model.specs.CoreState.{Entry, nobody}
 use Rattle.history_core.proofs.OtherEvents.{does-bad}
+use Rattle.history_core.proofs.SameMeaning.{keeps-entries, always-err}
 use Rattle.history_core.proofs.parts.Parts.bad.Goals as goal
+
+pub returns-in_err-reserve-clause-err : goal.returns-in_err-reserve-clause-err
+returns-in_err-reserve-clause-err c = always-err c.from_residual.result _ (keeps-entries c.args.self.now c.reserve.new.self c.reserve.ensures.entries c.reserve.ensures.emitted c.reserve.ensures.spare)
 
 pub returns-clause-ok : goal.returns-clause-ok
 returns-clause-ok c =

@@ -22,6 +22,15 @@ use Rattle.history_core.proofs.parts.Parts.grant.Goals as goal
 pub make_room-requires : goal.make_room-requires
 make_room-requires c = here-there c.args.self.now c.args.unit c.args.grain c.args.mode c.requires.can
 
+pub returns-in_err-make_room-clause-err : goal.returns-in_err-make_room-clause-err
+returns-in_err-make_room-clause-err c = always-err c.from_residual.result _ (keeps-cells c.args.self.now c.make_room.new.self c.make_room.ensures.kept c.make_room.ensures.recent c.make_room.ensures.opens)
+
+pub returns-in_default-clause-err : goal.returns-in_default-clause-err
+returns-in_default-clause-err c = keeps-cells c.args.self.now c.make_room.new.self c.make_room.ensures.kept c.make_room.ensures.recent c.make_room.ensures.opens
+
+pub returns-in_err-found-clause-err : goal.returns-in_err-found-clause-err
+returns-in_err-found-clause-err c = always-err c.from_residual-in_err-found.result _ (keeps-cells c.args.self.now c.make_room.new.self c.make_room.ensures.kept c.make_room.ensures.recent c.make_room.ensures.opens)
+
 pub lock_over-requires-clause-free : goal.lock_over-requires-clause-free
 lock_over-requires-clause-free c =
     (λ i. ask (cell_or (c.make_room.ensures.kept i c.args.grain) ((c.make_room.ensures.opens i).states c.args.grain)).holds c.args.unit c.args.mode)
@@ -63,15 +72,15 @@ lock_first-requires-clause-newest c =
     let here : c.in-Some.cell.now.cell ≡ cell_in c.make_room.new.self c.args.grain = c.in-Some.ensures in
     c.in_ok-found.ensures ∙ ap (λ (k : Cell). top (without_aborted c.first_aborted-aborted.result k.stack)) here
 
-pub returns-in_err-reply-clause-err : goal.returns-in_err-reply-clause-err
-returns-in_err-reply-clause-err c =
+pub returns-in_err-lock_first-clause-err : goal.returns-in_err-lock_first-clause-err
+returns-in_err-lock_first-clause-err c =
     let old = c.args.self.now in
     let roomy = c.make_room.ensures in
-    always-err c.from_residual-in_err-reply.result _ (λ w s. c.in_err-reply.ensures.err w (keeps-cells old c.make_room.new.self roomy.kept roomy.recent roomy.opens w s))
+    always-err c.from_residual-in_err-lock_first.result _ (λ w s. c.in_err-lock_first.ensures.err w (keeps-cells old c.make_room.new.self roomy.kept roomy.recent roomy.opens w s))
 
 pub returns-clause-ok : goal.returns-clause-ok
 returns-clause-ok c =
     let old = c.args.self.now in
     let mid : Parts = record old { cells = c.make_room.new.self } in
     let roomy = c.make_room.ensures in
-    keeps-does old mid (keeps-cells old c.make_room.new.self roomy.kept roomy.recent roomy.opens) (Grant c.args.unit c.args.grain c.args.mode) c.in_ok-reply.reply c.lock_first.new.self c.in_ok-reply.ensures.ok
+    keeps-does old mid (keeps-cells old c.make_room.new.self roomy.kept roomy.recent roomy.opens) (Grant c.args.unit c.args.grain c.args.mode) (reply.Granted c.in_ok-found.found.state c.in_ok-found.found.source) c.lock_first.new.self c.in_ok-lock_first.ensures.ok

@@ -26,7 +26,10 @@ lock_over-requires-clause-free c =
 
 pub returns-in_err-reserve_read-clause-err : goal.returns-in_err-reserve_read-clause-err
 returns-in_err-reserve_read-clause-err c =
-    always-err c.from_residual-in_err-reserve_read.result _ (keeps-units c.args.self.now c.reserve_read.new.self c.reserve_read.ensures.same)
+    always-err c.from_residual.result _ (keeps-units c.args.self.now c.reserve_read.new.self c.reserve_read.ensures.same)
+
+pub returns-in_err-copy-clause-err : goal.returns-in_err-copy-clause-err
+returns-in_err-copy-clause-err c = always-err c.from_residual-in_err-copy.result _ (keeps-units c.args.self.now c.reserve_read.new.self c.reserve_read.ensures.same)
 
 pub returns-in_err-left-clause-err : goal.returns-in_err-left-clause-err
 returns-in_err-left-clause-err c =
@@ -40,8 +43,8 @@ returns-clause-ok c =
     let old = c.args.self.now in
     let mid : Parts = record old { units = c.reserve_read.new.self } in
     let new : Parts = record old { cells = c.evict_left.new.cells; units = c.note_read.new.self } in
-    let found : Version = record { unit = c.args.found.source; state = c.args.found.state } in
-    let read : Read = record { grain = c.args.grain; state = c.in_ok-copy.field-0; source = c.args.found.source } in
+    let found : Version = record { unit = c.args.found.now.source; state = c.args.found.now.state } in
+    let read : Read = record { grain = c.args.grain; state = c.in_ok-copy.field-0; source = c.args.found.now.source } in
     let cleans : Cleans mid c.args.grain c.args.aborted =
     c.requires.cleans ∙ ap (λ (v : UnitNo → Verdict). find (λ u. is_aborted (v u)) (writers (cell_in old.cells c.args.grain).stack)) (sym c.reserve_read.ensures.same.verdict) in
     let used = c.touch.ensures in
@@ -51,9 +54,15 @@ returns-clause-ok c =
     let changes = changes-lock mid c.args.unit c.args.grain c.args.mode c.args.aborted c.lock_over.new.cells c.note_read.new.self found read (not c.is_sure-depends.result) cleans
     c.requires.first locks (c.lock_over.ensures.recent ∙ c.in_ok-left.ensures.used) (c.lock_over.ensures.opens ∙ used.opens)
     c.requires.newest
-    (λ i. record { grain = c.args.grain; state = c.in_ok-copy.ensures i; source = c.args.found.source })
+    (λ i. record { grain = c.args.grain; state = c.in_ok-copy.ensures i; source = c.args.found.now.source })
     (ap not c.is_sure-depends.ensures) c.note_read.ensures.units c.note_read.ensures.verdict c.note_read.ensures.result in
     keeps-does old mid (keeps-units old c.reserve_read.new.self c.reserve_read.ensures.same)
     (Grant c.args.unit c.args.grain c.args.mode) (reply.Granted found.state found.unit) new
     (does-lock mid c.args.unit c.args.grain c.args.mode c.lock_over.new.cells c.evict_left.new.cells c.note_read.new.self (reply.Granted found.state found.unit) c.wants.result.now c.in_ok-left.left
     c.requires.first changes c.in_ok-left.ensures.left c.wants.ensures c.evict_left.ensures.evicts c.evict_left.ensures.recent c.evict_left.ensures.opens)
+
+pub returns-in_err-left-clause-opens : goal.returns-in_err-left-clause-opens
+returns-in_err-left-clause-opens c = c.touch.ensures.opens
+
+pub returns-clause-opens : goal.returns-clause-opens
+returns-clause-opens c = c.evict_left.ensures.opens ∙ c.lock_over.ensures.opens ∙ c.touch.ensures.opens

@@ -5,10 +5,13 @@ use Rattle.core_model.specs.Tests.{ask_answer}
 use Rattle.core_model.specs.declared.events.CoreEvent.TheVariants.{Refuse}
 use Rattle.core_model.specs.declared.events.CoreReply.TheVariants as reply
 use Rattle.history_core.specs.declared.parts.Parts.{Parts}
-use Rattle.history_core.proofs.SameMeaning.{keeps-entries, keeps-does}
+use Rattle.history_core.proofs.SameMeaning.{keeps-entries, keeps-does, always-err}
 use Rattle.history_core.proofs.Endings.{changes-refuse, does-refuse, refuse-some}
 use Rattle.history_core.proofs.Grants.{ask-is}
 use Rattle.history_core.proofs.parts.Parts.refuse.Goals as goal
+
+pub returns-in_err-reserve-clause-err : goal.returns-in_err-reserve-clause-err
+returns-in_err-reserve-clause-err c = always-err c.from_residual.result _ (keeps-entries c.args.self.now c.reserve.new.self c.reserve.ensures.entries c.reserve.ensures.emitted c.reserve.ensures.spare)
 
 pub unreachable-requires : goal.unreachable-requires
 unreachable-requires c =

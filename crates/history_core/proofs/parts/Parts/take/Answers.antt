@@ -6,6 +6,7 @@ use Rattle.open_batch.specs.declared.members.FinishedUnit.{FinishedUnit}
 use Rattle.open_batch.specs.TakenBatch.{first_batch}
 use Rattle.history_core.specs.KeptParts.{writes_in, AllPlaced}
 use Rattle.history_core.proofs.Takes.{takes-at, none-open}
+use Rattle.history_core.proofs.SameMeaning.{always-err}
 use Rattle.history_core.proofs.parts.Parts.take.Goals as goal
 use Rattle.history_core.proofs.Sweeps.{unmoved}
 use Rattle.core_model.specs.declared.events.CoreEvent.TheVariants.{Take}
@@ -23,3 +24,12 @@ returns-clause-ok c =
     let learn : writes_in (take size mid.waiting.items) ≤ mid.learn.spare = subst (λ (v : Vec FinishedUnit Global). writes_in (take size v.items) ≤ mid.learn.spare) (sym w) c.in_ok-prepare_take.ensures.learn in
     let places : AllPlaced (has_place mid.last) (take size mid.waiting.items) = subst (λ (v : Vec FinishedUnit Global). AllPlaced (has_place mid.last) (take size v.items)) (sym w) c.in_ok-prepare_take.ensures.places in
     λ x s r a. (let t = takes-at mid size number c.in_ok-batch.batch x (c.prepare_take.ensures.keeps (none-open old c.requires.can) x s) (c.batch_size-size.ensures.size x s) within c.in-Some.ensures.1 made c.in_ok-prepare_take.ensures.entries learn places in (unmoved (record mid { batches = number; batch = Some c.in_ok-batch.batch }) x Take r a refl t.0, t.1))
+
+pub returns-in_err-prepare_take-clause-err : goal.returns-in_err-prepare_take-clause-err
+returns-in_err-prepare_take-clause-err c = always-err c.from_residual.result _ (c.prepare_take.ensures.keeps (none-open c.args.self.now c.requires.can))
+
+pub returns-in_default-clause-err : goal.returns-in_default-clause-err
+returns-in_default-clause-err c = c.prepare_take.ensures.keeps (none-open c.args.self.now c.requires.can)
+
+pub returns-in_err-batch-clause-err : goal.returns-in_err-batch-clause-err
+returns-in_err-batch-clause-err c = always-err c.from_residual-in_err-batch.result _ (c.prepare_take.ensures.keeps (none-open c.args.self.now c.requires.can))

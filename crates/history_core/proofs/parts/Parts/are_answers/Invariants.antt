@@ -1,6 +1,0 @@
-use Rattle.std.proofs.Common.{◌≡◌, drop}
-use Rattle.history_core.specs.Effects.{answered_in, outcome_kept}
-use Rattle.history_core.proofs.parts.Parts.are_answers.Given as goal
-
-abbrev pub invariant-loop-at : goal.invariant-loop-at
-invariant-loop-at l = answered_in (outcome_kept l.self.units) (drop l.at l.units) (drop l.at l.answers) ≡ answered_in (outcome_kept l.self.units) l.units l.answers
