@@ -43,6 +43,18 @@ impl<T: Drop, L: Drop> Claim<T, L> {
         self.folder.as_ref()
     }
 
+    // Keeps a handle in the place of the standard stream whose number it got.
+    fn stand_in(&mut self, number: u32, opened: T)
+        ensures folder { self.new.folder ≡ self.old.folder }
+        ensures missing { self.new.is_missing ≡ self.old.is_missing }
+    {
+        match number {
+            0 => self.for_input = Some(opened),
+            1 => self.for_output = Some(opened),
+            _ => self.for_errors = Some(opened),
+        }
+    }
+
     /// Takes the folder at this path, unless it is taken, and answers whether it is there. Refused where another handle has its
     /// lock; no file of it may be opened then. A folder that wasn't there once isn't looked for again: what comes to stand at its
     /// path is another one.
@@ -78,16 +90,13 @@ impl<T: Drop, L: Drop> Claim<T, L> {
                 }
                 Err(error) => return Err(error),
             };
-            match system.number(&opened) {
-                0 => self.for_input = Some(opened),
-                1 => self.for_output = Some(opened),
-                2 => self.for_errors = Some(opened),
-                _ => {
-                    let locked = system.lock(opened)?;
-                    self.folder = Some(locked);
-                    return Ok(true);
-                }
+            let number = system.number(&opened);
+            if number > 2 {
+                let locked = system.lock(opened)?;
+                self.folder = Some(locked);
+                return Ok(true);
             }
+            self.stand_in(number, opened);
         }
         Err(Refused::Failed)
     }

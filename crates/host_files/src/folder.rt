@@ -23,7 +23,7 @@ use std::alloc::{AllocError, Global};
 use system_calls::{Access, Refused, SystemCalls};
 
 /// Whether the folder's entries last: those of files that were made.
-#[derive(Clone, Copy, PartialEq, Eq)]
+#[derive(Clone, Copy)]
 pub enum Entries {
     Synced,
     Pending,
@@ -63,6 +63,18 @@ pub struct Folder<S: SystemCalls> {
     ghost lost: { IsTrue S.tells → entries ≡ Entries.Lost → IsTrue (S.answered system).has_lost_entries },
     ghost entered: { IsTrue S.tells → entries ≡ Entries.Synced → (file : FileId) → IsTrue ((S.state system).is_entered file) },
     ghost calm: { IsTrue S.tells → entries ≢ Entries.Lost → (S.state system).has_lost ≡ false },
+}
+
+// Whether the entries last once one more was made.
+fn pending_after(entries: Entries) -> Entries
+    ensures pending { result ≢ Entries.Synced }
+    ensures lost { result ≡ Entries.Lost → entries ≡ Entries.Lost }
+    ensures stays { entries ≡ Entries.Lost → result ≡ Entries.Lost }
+{
+    match entries {
+        Entries::Synced | Entries::Pending => Entries::Pending,
+        Entries::Lost => Entries::Lost,
+    }
 }
 
 // Opens a file to read and write it, or to read it alone where no more is allowed. A pipe isn't waited for: opened both ways it
@@ -123,10 +135,12 @@ fn refuse_unreached<S: SystemCalls>(
     Ok(())
 }
 
-// A file whose name isn't found any more is refused, also where its handle is kept.
+// A file whose name isn't found any more is refused, also where its handle is kept. The name isn't looked for where the file was the last
+// that was written or synced.
 fn refuse_missing<S: SystemCalls>(
     system: &mut S,
     folder: &S::Locked,
+    is_latest: bool,
     asked: Asked<'_>,
 ) -> Result<(), Refused>
     requires { asked.name.now ≡ name_of asked.file }
@@ -136,6 +150,9 @@ fn refuse_missing<S: SystemCalls>(
         → (S.answered system.new).refusals ≢ (S.answered system.old).refusals) }
     ensures known { IsTrue S.tells → (S.answered system.new).has_lost_entries ≡ (S.answered system.old).has_lost_entries }
 {
+    if is_latest {
+        return Ok(());
+    }
     let found = system.look(folder, asked.file, asked.name)?;
     if !found.is_regular {
         return Err(Refused::Failed);
@@ -147,9 +164,22 @@ fn refuse_missing<S: SystemCalls>(
 // would succeed all the same.
 fn refuse_lost(is_lost: bool) -> Result<(), Refused>
     ensures lost { IsTrue is_lost → IsErr result }
+    ensures believed { OnOk result (is_lost ≡ false) }
     ensures calm { is_lost ≡ false → IsOk result }
 {
     if is_lost {
+        return Err(Refused::Failed);
+    }
+    Ok(())
+}
+
+// A range that doesn't end below 2 to the 63 is refused.
+fn refuse_long(at: u64, bytes: &[u8]) -> Result<(), Refused>
+    ensures short { OnOk result (at + length bytes.now < 2 ^ 63) }
+    ensures calm { at + length bytes.now < 2 ^ 63 → IsOk result }
+{
+    let count = bytes.len() as u64;
+    if at >= FILE_LIMIT || count >= FILE_LIMIT - at {
         return Err(Refused::Failed);
     }
     Ok(())
@@ -164,6 +194,34 @@ fn refuse_gone(had_bytes: bool) -> Result<(), Refused>
         return Err(Refused::Missing);
     }
     Ok(())
+}
+
+// Opens a file of the folder that was taken. None where there is none; one that had bytes is refused then.
+fn find_in<S: SystemCalls>(
+    system: &mut S,
+    folder: &S::Locked,
+    is_reached: bool,
+    asked: Asked<'_>,
+) -> Result<Option<S::File>, Refused>
+    requires name { asked.name.now ≡ name_of asked.file }
+    requires reached { IsTrue S.tells → IsTrue is_reached → IsTrue (S.finds folder.now) }
+    ensures told { IsTrue S.tells → S.state system.new ≡ S.state system.old }
+    ensures file { IfOk result (λ found. IfSome found (λ opened. S.File.file opened ≡ asked.entry.file)) }
+    ensures absent { IfOk result (λ found. IsNone found → IsTrue S.tells → ((S.state system.old).world.disk asked.entry.file).seen ≡ []) }
+    ensures found { OnOk result (IsTrue S.tells → IsTrue (S.finds folder.now)) }
+    ensures gone { IfOk result (λ found. IsNone found → asked.entry.had_bytes ≡ false) }
+    ensures ends { IsTrue S.tells → EndsFairly (is_ok result) (S.answered system.old) (S.answered system.new)
+        (IsUnhindered S.is_regular (S.state system.old) asked.entry) }
+{
+    match open_file(system, folder, asked) {
+        Ok(opened) => Ok(Some(opened)),
+        Err(Refused::Missing) => {
+            refuse_unreached(system, folder, is_reached)?;
+            refuse_gone(asked.had_bytes)?;
+            Ok(None)
+        }
+        Err(error) => Err(error),
+    }
 }
 
 impl<S: SystemCalls + Drop> Folder<S> {
@@ -233,6 +291,19 @@ impl<S: SystemCalls + Drop> Folder<S> {
         Ok(())
     }
 
+    // Takes the folder, unless it is taken, and answers whether it is there.
+    fn take_folder(&mut self) -> Result<bool, Refused>
+        ensures told { IsTrue S.tells → S.state self.new.system ≡ S.state self.old.system }
+        ensures taken { IfOk result (λ there. IsTrue there → IsTrue (is_some self.new.claim.folder)) }
+        ensures missing { IfOk result (λ there. there ≡ false → IsTrue self.new.claim.is_missing) }
+        ensures entries { self.new.entries ≡ self.old.entries }
+        ensures calm { OnOk result (IsTrue S.tells → WasObeyed (S.answered self.old.system) (S.answered self.new.system)) }
+        ensures fine { IsTrue S.tells → WentWell (S.answered self.old.system) (S.answered self.new.system) → IsOk result }
+        ensures known { IsTrue S.tells → (S.answered self.new.system).has_lost_entries ≡ (S.answered self.old.system).has_lost_entries }
+    {
+        self.claim.take(&mut self.system, self.path.as_str())
+    }
+
     // Opens a file of the folder. None where there is neither file nor folder.
     fn find(&mut self, asked: Asked<'_>) -> Result<Option<S::File>, Refused>
         requires { asked.name.now ≡ name_of asked.file }
@@ -246,26 +317,16 @@ impl<S: SystemCalls + Drop> Folder<S> {
         ensures ends { IsTrue S.tells → EndsFairly (is_ok result) (S.answered self.old.system) (S.answered self.new.system)
             (IsUnhindered S.is_regular (S.state self.old.system) asked.entry) }
     {
-        if !self.claim.take(&mut self.system, self.path.as_str())? {
+        if !self.take_folder()? {
             refuse_gone(asked.had_bytes)?;
             return Ok(None);
         }
         let Some(folder) = self.claim.folder() else {
             return Err(Refused::Failed);
         };
-        match open_file(&mut self.system, folder, asked) {
-            Ok(opened) => {
-                self.is_reached = true;
-                Ok(Some(opened))
-            }
-            Err(Refused::Missing) => {
-                refuse_unreached(&mut self.system, folder, self.is_reached)?;
-                self.is_reached = true;
-                refuse_gone(asked.had_bytes)?;
-                Ok(None)
-            }
-            Err(error) => Err(error),
-        }
+        let found = find_in(&mut self.system, folder, self.is_reached, asked)?;
+        self.is_reached = true;
+        Ok(found)
     }
 
     // As `find`, and only a regular file is taken. One that had bytes was seen to be regular.
@@ -417,9 +478,7 @@ impl<S: SystemCalls + Drop> Folder<S> {
         let Some(folder) = self.claim.folder() else {
             return Err(Refused::Missing);
         };
-        if self.entries == Entries::Synced {
-            self.entries = Entries::Pending;
-        }
+        self.entries = pending_after(self.entries);
         let opened = self.system.make(folder, asked.file, asked.name)?;
         Ok(opened)
     }
@@ -445,9 +504,7 @@ impl<S: SystemCalls + Drop> Folder<S> {
         let Some(folder) = self.claim.folder() else {
             return Ok(None);
         };
-        if !is_latest {
-            refuse_missing(&mut self.system, folder, asked)?;
-        }
+        refuse_missing(&mut self.system, folder, is_latest, asked)?;
         Ok(Some(opened))
     }
 
@@ -490,10 +547,7 @@ impl<S: SystemCalls + Drop> Folder<S> {
             (IsUnhindered S.is_regular (S.state self.old.system) asked.entry × (self.new.claim.is_missing ≡ false) × (at + length bytes.now < 2 ^ 63)) }
     {
         refuse_lost(asked.is_lost)?;
-        let count = bytes.len() as u64;
-        if at >= FILE_LIMIT || count >= FILE_LIMIT - at {
-            return Err(Refused::Failed);
-        }
+        refuse_long(at, bytes)?;
         let opened = self.take_writer(asked)?;
         self.windows.forget();
         let answer = write_whole(&mut self.system, &opened, at, bytes);

@@ -1,6 +1,7 @@
-use Rattle.std.proofs.Common.{◌<◌, ◌+◌, ℕ, sym, subst, rules}
+use Rattle.std.proofs.Common.{◌≢◌, ◌<◌, ◌+◌, ℕ, sym, ◌∙◌, subst, rules}
 use Rattle.system_calls.specs.System.{System, IsReadPart}
-use Rattle.host_files.proofs.RepeatedCalls.{TookTurns, turned_on}
+use Rattle.system_calls.specs.declared.refusal.Refused.{Refused}
+use Rattle.host_files.proofs.RepeatedCalls.{TookTurns, turned_on, turned_refused, turned_known}
 use Rattle.host_files.proofs.Parts.{ReadSome, read_more}
 use Rattle.host_files.proofs.pieces.read_some.Goals as goal
 use Rattle.host_files.proofs.pieces.read_some.Goals.{in-Ok+else-more-eq0, in-Err-Interrupted}
@@ -26,3 +27,18 @@ loop-turn-preserved g c = elim c.match-read_at.branch [
       }
   | in-Err-Interrupted w ↦ search rules
 ]
+
+pub returns-in-Err : goal.returns-in-Err
+returns-in-Err g c =
+    let apart : c.in-Err.error ≢ Refused.Interrupted = search rules in
+    let old = g.S.SystemCalls.answered c.args.system.now in
+    let now = g.S.SystemCalls.answered c.loop-turn.system in
+    let new = g.S.SystemCalls.answered c.read_at.new.self in
+    record {
+      told = λ told. c.read_at.ensures.told told ∙ c.loop-turn.invariant.told told;
+      bound = tt;
+      bytes = tt;
+      calm = tt;
+      fine = λ told well. absurd (turned_refused c.loop-turn.turn c.loop-turn.count now.has_lost_entries old now new (c.loop-turn.invariant.answered told) ((c.in-Err.ensures.answers told).refused apart) well);
+      known = λ told. turned_known c.loop-turn.turn c.loop-turn.count old now new (c.loop-turn.invariant.answered told) ((c.in-Err.ensures.answers told).refused apart);
+    }

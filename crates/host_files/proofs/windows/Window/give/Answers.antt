@@ -1,4 +1,4 @@
-use Rattle.std.proofs.Common.{rules, ◌≡◌, ◌≤◌, ◌+◌, ◌-◌, ℕ, List, ◌++◌, length, take, drop, min, ◌∙◌, ap}
+use Rattle.std.proofs.Common.{rules, ◌≡◌, ◌-◌, ℕ, List, ◌++◌, length, take, drop, min, ◌∙◌, ap}
 use Rattle.host_files.proofs.ReadAhead.{given_bytes, given_count}
 use Rattle.host_files.proofs.windows.Window.give.Goals as goal
 
