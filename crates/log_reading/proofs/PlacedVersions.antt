@@ -1,5 +1,5 @@
 -- What stands at the places that a log leaves is what the log stands for, and what reading at places gives.
-use Rattle.std.proofs.Common.{◌≡◌, inl, inr, ℕ, Bool, true, false, ◌||◌, Option, Some, None, is_some, List, [], ◌∷◌, Result, Ok, Err, refl, sym, ◌∙◌, ap, subst, if◌then◌else◌}
+use Rattle.std.proofs.Common.{◌≡◌, inl, inr, ℕ, zero, suc, length, Bool, true, false, ◌||◌, Option, Some, None, is_some, List, [], ◌∷◌, Result, Ok, Err, refl, sym, ◌∙◌, ap, subst, if◌then◌else◌}
 use Rattle.std.specs.Prelude.{⊤, slice_get, option_map}
 use Rattle.std.specs.List.{list_any}
 use Rattle.std.specs.Option.{option_flatten}
@@ -20,6 +20,7 @@ use Rattle.base_types.specs.declared.places.Places.{Places}
 use Rattle.base_types.specs.Places.{placed_in, has_seat}
 use Rattle.base_types.specs.declared.stores.Store.{Store}
 use Rattle.base_types.specs.Stores.{grain_cmp, state_in, PutsState}
+use Rattle.host_trait.specs.declared.channels.Channel.{Channel}
 use Rattle.host_trait.specs.declared.channels.FileId.{FileId}
 use Rattle.host_trait.specs.declared.channels.FileId.TheVariants.{Grain}
 use Rattle.host_trait.specs.Files.{same_grain}
@@ -27,10 +28,16 @@ use Rattle.host_trait.specs.World.{Image}
 use Rattle.host_trait.proofs.Names.{same_grain-is, same_grain-refl}
 use Rattle.field_codec.specs.declared.formats.Format.{Format}
 use Rattle.grain_log.specs.declared.faults.VersionFault.{VersionFault}
-use Rattle.grain_log.specs.Reads.{version_at_place, version_by_owner, is_owned, is_logged, GivesVersion}
+use Rattle.grain_log.specs.Counts.{VersionReadFaulted}
+use Rattle.grain_log.specs.Places.{IsVersionIn}
+use Rattle.grain_log.specs.Reads.{fields_of, version_at_place, version_by_owner, is_owned, is_logged, GivesVersion}
 use Rattle.commit_log.specs.declared.records.Named.{Named}
 use Rattle.script_tree.specs.Programs.{ProgramTree}
+use Rattle.script_check.specs.Shapes.{type_shapes}
 use Rattle.program_file.specs.Succession.{shapes_in_turn, carried_from, version_meant}
+use Rattle.program_file.specs.ProgramsInTurn.{HasFieldsUnder}
+use Rattle.program_file.proofs.ProgramNumbers.{has_fields}
+use Rattle.log_reading.specs.Counts.{ReadFaulted}
 use Rattle.log_reading.specs.Versions.{version_by_shape, version_numbered, version_found, missing_or, first_missing, state_of}
 use Rattle.log_reading.specs.Sums.{placed_as, placed_after, state_after}
 use Rattle.log_reading.specs.PlacedVersions.{version_placed, placed_by_shape, placed_numbered, state_placed, state_reread, states_reread, fault_of, IsUnreadAt}
@@ -226,6 +233,28 @@ pub unread_there : (live : ℕ) (format : Format) (shapes : List Shape) (image :
 unread_there live format shapes image grain p placed (VersionFault.Damaged place) is gives = (refl, (p, is, gives))
 unread_there live format shapes image grain p placed VersionFault.Failed is gives = refl
 unread_there live format shapes image grain p placed VersionFault.Memory is gives = tt
+
+-- and of the counts
+pub faulted_there : (live : ℕ) (grain : GrainId) (fault : VersionFault) (old new : Channel → ℕ) → VersionReadFaulted (Grain live grain) fault old new → ReadFaulted (fault_of live grain fault) old new
+faulted_there live grain (VersionFault.Damaged place) old new f = f
+faulted_there live grain VersionFault.Failed old new f = f
+faulted_there live grain VersionFault.Memory old new f = f
+
+-- a version of the shape of a program has the fields of its type under that program
+pub typed_there : (programs : List ProgramTree) (shapes : List Shape) (n : ℕ) (shape : Shape) (grain : GrainId) (format : Format) (size : ℕ) (v : Version) → shapes ≡ shapes_in_turn programs → slice_get shapes n ≡ Some shape
+    → IsVersionIn format (fields_of (slice_get shape.types grain.kind)) size v → HasFieldsUnder programs n grain v.state
+typed_there programs shapes n shape grain format size v are at fits = by programs n (ap (λ (l : List Shape). slice_get l n) (sym are) ∙ at)
+  where
+    counted : (fields : Option ℕ) → IsVersionIn format fields size v → fields ≡ Some (length v.state)
+    counted None none = absurd none
+    counted (Some count) is = ap (λ (m : ℕ). Some m) (sym is.count)
+
+    by : (ps : List ProgramTree) (m : ℕ) → slice_get (shapes_in_turn ps) m ≡ Some shape → HasFieldsUnder ps m grain v.state
+    by [] m is = absurd cc
+    by (t ∷ ps) zero is =
+        let same : shape ≡ record { types = type_shapes t } = cc in
+        has_fields (t ∷ ps) 0 t grain v.state refl (ap (λ (s : Shape). fields_of (slice_get s.types grain.kind)) (sym same) ∙ counted (fields_of (slice_get shape.types grain.kind)) fits)
+    by (t ∷ ps) (suc m) is = by ps m is
 
 -- where the grain has no place, nothing is read
 pub state_unplaced : (live : ℕ) (format : Format) (programs : List ProgramTree) (image : Image) (places : Places) (grain other : GrainId) (old : Option (List Value)) → placed_in places grain ≡ None → old ≡ state_reread live format programs image places old grain other

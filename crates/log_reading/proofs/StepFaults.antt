@@ -1,13 +1,20 @@
 -- What the faults of the steps say of the folder.
-use Rattle.std.proofs.Common.{◌≡◌, inl, inr, ℕ, List, Some, Ok, Err, refl}
+use Rattle.std.proofs.Common.{◌≡◌, ◌+◌, inl, inr, ℕ, List, Some, Result, Ok, Err, refl, ap}
 use Rattle.base_types.specs.declared.shapes.Shape.{Shape}
+use Rattle.host_trait.specs.declared.channels.Channel.{Channel}
 use Rattle.host_trait.specs.declared.channels.FileId.{FileId}
 use Rattle.host_trait.specs.declared.channels.FileId.TheVariants.{Manager}
+use Rattle.host_trait.specs.Faults.{NoneFailed}
 use Rattle.host_trait.specs.World.{Image}
+use Rattle.field_codec.specs.Results.{place_of}
+use Rattle.field_codec.specs.declared.faults.CodecFault.{CodecFault}
 use Rattle.field_codec.specs.declared.formats.Format.{Format}
+use Rattle.commit_log.specs.declared.records.CheckpointPiece.{CheckpointPiece}
 use Rattle.commit_log.specs.declared.records.Named.{Named}
 use Rattle.program_file.specs.Programs.{Program}
 use Rattle.log_reading.specs.declared.faults.FolderFault.{FolderFault}
+use Rattle.log_reading.specs.Counts.{ReadFaulted}
+use Rattle.log_reading.specs.Steps.{and_next, placed}
 use Rattle.log_reading.specs.Blocks.{LogRead, log_in_file, shapes_read}
 use Rattle.log_reading.specs.Versions.{named_in, named_by_grain, first_missing}
 use Rattle.log_reading.specs.Sums.{StopsAt, AreUnread}
@@ -36,3 +43,14 @@ pub versions_refused : (live : ℕ) (format : Format) (p : Program) (image : Ima
 versions_refused live format p image log read (FolderFault.Damaged file place) unread = inr (log, read, unread)
 versions_refused live format p image log read (FolderFault.Failed file) unread = inr (log, read, unread)
 versions_refused live format p image log read FolderFault.Memory unread = tt
+
+-- a fault of bytes that were read is no failed call's, and none has failed
+pub quiet_fault : {A : Type 0} (fault : FolderFault) (old new : Channel → ℕ) → ((file : FileId) → failed {A = A} fault ≡ failed (FolderFault.Failed file) → ⊥) → NoneFailed old new → ReadFaulted fault old new
+quiet_fault (FolderFault.Damaged file place) old new quiet none = none
+quiet_fault (FolderFault.Failed file) old new quiet none = absurd (quiet file refl)
+quiet_fault FolderFault.Memory old new quiet none = none
+
+-- a place in a piece of a checkpoint that stands behind a gate
+pub piece_damaged : (gate size : ℕ) (read : Result CheckpointPiece CodecFault) (place : ℕ) → placed (gate + 5) read ≡ Err place → and_next gate size read ≡ Err place
+piece_damaged gate size (Ok piece) place is = absurd cc
+piece_damaged gate size (Err fault) place is = (let same : gate + 5 + place_of fault ≡ place = cc in ap (λ (n : ℕ). Err n) same)

@@ -5,7 +5,6 @@ ghost use Rattle.host_trait.specs.Runs.{OnlyAsked};
 ghost use Rattle.host_trait.specs.declared.channels.FileId.{FileId};
 ghost use Rattle.host_trait.specs.declared.channels.FileId.TheVariants.{Manager};
 ghost use Rattle.script_tree.specs.Programs.{program_tree};
-ghost use Rattle.script_check.specs.Shapes.{type_shapes};
 ghost use Rattle.script_check.specs.Comparison.{last_program};
 ghost use Rattle.log_reading.specs.Entries.{Recorded, Upgraded, entry_said};
 ghost use Rattle.log_reading.specs.declared.faults.FolderFault.{FolderFault as Fault};
@@ -136,13 +135,13 @@ pub(crate) fn add_said(so_far: &mut LogSoFar, said: Said) -> Result<(), AllocErr
     }
 }
 
-/// What is known of a log at its first gate.
-pub(crate) fn begin(alloc: Global, base: &Base, first: &Checked) -> Result<LogSoFar, AllocError>
-    ensures count { IfOk result (λ s. s.count ≡ base.now.count) }
-    ensures next { IfOk result (λ s. s.next ≡ base.now.next_unit.0) }
-    ensures named { IfOk result (λ s. s.named ≡ named_of_base (log_base_of base.now)) }
+/// What is known of a log at its first gate, under a program of this shape.
+pub(crate) fn begin(alloc: Global, base: Base, shape: Shape) -> Result<LogSoFar, AllocError>
+    ensures count { IfOk result (λ s. s.count ≡ base.count) }
+    ensures next { IfOk result (λ s. s.next ≡ base.next_unit.0) }
+    ensures named { IfOk result (λ s. s.named ≡ named_of_base (log_base_of base)) }
     ensures later { IfOk result (λ s. s.later ≡ []) }
-    ensures shape { IfOk result (λ s. s.shape.types ≡ type_shapes (program_tree first.now)) }
+    ensures shape { IfOk result (λ s. s.shape ≡ shape) }
     ensures text { IfOk result (λ s. s.text ≡ None) }
 {
     let mut named = List::new(alloc);
@@ -152,7 +151,7 @@ pub(crate) fn begin(alloc: Global, base: &Base, first: &Checked) -> Result<LogSo
         next: base.next_unit.0,
         named,
         later: List::new(alloc),
-        shape: first.shape()?,
+        shape,
         text: None,
     })
 }

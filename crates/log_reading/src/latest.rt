@@ -65,11 +65,10 @@ pub fn read_latest<H: Host>(
     ensures asked { IsTrue H.tells → OnlyAsked (H.world host.old) (H.world host.new) }
     ensures calls { HasCalled ReadFaulted result H.is_ready H.faults host.old host.new }
 {
-    let log = match read_log(alloc, host, slot, first, format) {
-        Ok(log) => log,
+    let mut named = match read_log(alloc, host, slot, first, format) {
+        Ok(log) => log.named.into_vec(),
         Err(fault) => return Err(fault),
     };
-    let mut named = log.named.into_vec();
     match sort_by_grain(&mut named) {
         Ok(()) => {}
         Err(AllocError) => return Err(FolderFault::Memory),

@@ -63,9 +63,9 @@ pub fn read_log<H: Host>(
         Ok(base) => base,
         Err(fault) => return Err(fault),
     };
-    let mut so_far = begin(alloc, &base, first)?;
     let mut session = base.session;
     let mut gate_at = base.gate_at;
+    let mut so_far = begin(alloc, base, shape)?;
     while let Some((own, said, behind)) = next_said(
         alloc, host, slot, first, &so_far, session, format, gate_at,
     )? {

@@ -12,6 +12,7 @@ ghost use Rattle.log_reading.specs.Steps.{seen_in};
 ghost use Rattle.log_reading.specs.PlacedVersions.{fault_of, placed_numbered, state_placed, state_reread, states_reread, IsUnreadAt};
 
 use crate::faults::FolderFault;
+use crate::versions::shape_at;
 use base_types::{GrainId, Placed, Places, Shape, State, Store, Version};
 use field_codec::Format;
 use grain_log::{VersionFault, read_version};
@@ -75,7 +76,7 @@ fn placed_version<H: Host>(
     ensures calls { HasCalled ReadFaulted result H.is_ready H.faults host.old host.new }
 {
     let file = FileId::Grain { slot, grain };
-    let Some(shape) = shapes.get(placed.program as usize) else {
+    let Some(shape) = shape_at(shapes, placed.program) else {
         return Err(FolderFault::Damaged {
             file,
             place: placed.place.offset,

@@ -1,4 +1,5 @@
-ghost use Rattle.std.specs.Prelude.{◌≡◌, ◌+◌, ◌^◌, ◌<◌, ◌≤◌, ℕ, List, IsTrue, true, false, if◌then◌else◌, length, take, drop, Ok, Err, Some, None, OnOk, IfOk, IfErr, IsErrOf};
+ghost use Rattle.std.specs.Prelude.{◌≡◌, ◌+◌, ◌^◌, ◌<◌, ◌≤◌, ℕ, List, IsTrue, true, false, if◌then◌else◌, length, take, drop, slice_get, Ok, Err, Some, None, OnOk, IfOk, IfErr, IsErrOf};
+ghost use Rattle.std.specs.Option.{option_copied};
 ghost use Rattle.std.specs.Int.{w64, to_le_bytes};
 ghost use Rattle.base_types.specs.declared.calls.GrainId.{GrainId};
 ghost use Rattle.base_types.specs.Stores.{end_in};
@@ -96,6 +97,13 @@ fn next_version<H: Host>(
     }
 }
 
+/// The shape of a number among those of the programs, none where there is none.
+pub(crate) fn shape_at(shapes: &[Shape], number: u32) -> Option<&Shape>
+    ensures { option_copied result ≡ slice_get shapes.now number }
+{
+    shapes.get(number as usize)
+}
+
 // The version that is named, by the shape of the program of its time, as `next_version` answers it.
 fn numbered_version<H: Host>(
     alloc: Global,
@@ -119,7 +127,7 @@ fn numbered_version<H: Host>(
     ensures calls { HasCalled ReadFaulted result H.is_ready H.faults host.old host.new }
 {
     let grain = named.written.grain;
-    let Some(shape) = shapes.get(named.program as usize) else {
+    let Some(shape) = shape_at(shapes, named.program) else {
         return Err(FolderFault::Damaged {
             file: FileId::Grain { slot, grain },
             place: named.written.place.offset,

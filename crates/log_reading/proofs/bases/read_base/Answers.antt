@@ -12,6 +12,9 @@ use Rattle.log_reading.specs.Blocks.{header_damage, behind_header, log_as, log_i
 use Rattle.log_reading.specs.Steps.{BeginsSaved, IsFollowedBy, log_base_of}
 use Rattle.log_reading.proofs.Errors.{other_value}
 use Rattle.log_reading.proofs.LogBlocks.{follows_begins}
+use Rattle.host_trait.specs.declared.channels.Channel.{Channel}
+use Rattle.log_reading.specs.Counts.{ReadFaulted}
+use Rattle.host_trait.proofs.Counts.{none_then}
 use Rattle.log_reading.proofs.bases.read_base.Goals as goal
 
 -- a damaged header
@@ -43,6 +46,13 @@ returns-in-Ok-read_checkpoint-clause-begins g c told p shape =
     let base = c.in-Ok-read_checkpoint.base in
     subst (λ (d : Disk). IsFollowedBy c.args.format p (seen d) (log_base_of base) [] [] base.session base.gate_at) same (c.in-Ok-read_checkpoint.ensures.begins told p shape (subst (λ (d : Disk). BeginsSaved (seen d)) (sym same) begins))
 
+pub returns-in-Ok-read_checkpoint-clause-calls : goal.returns-in-Ok-read_checkpoint-clause-calls
+returns-in-Ok-read_checkpoint-clause-calls g c = record {
+  ready = λ at was. c.read_checkpoint.ensures.calls.ready at (c.check_header.ensures.calls.ready at was);
+  calm = none_then _ _ _ c.in-Ok.ensures.calls.calm c.in-Ok-read_checkpoint.ensures.calls.calm;
+  fault = tt;
+}
+
 pub returns-in-Ok-read_checkpoint-clause-asked : goal.returns-in-Ok-read_checkpoint-clause-asked
 returns-in-Ok-read_checkpoint-clause-asked g c told = asked_then _ _ _ (c.check_header.ensures.asked told) (c.read_checkpoint.ensures.asked told)
 
@@ -54,6 +64,13 @@ returns-in-Err-read_checkpoint-clause-damaged g c file place is told p shape =
     let begins : BeginsSaved (seen (g.H.Host.world c.args.host.now).disk) = (c.in-Ok.ensures.whole told, sym (c.in-Ok.ensures.begins told) ∙ saved) in
     let here = c.in-Err-read_checkpoint.ensures.damaged file place (other_value _ (FolderFault.Damaged file place) is) told p shape (subst (λ (d : Disk). BeginsSaved (seen d)) (sym same) begins) in
     subst (λ (d : Disk). log_in_file c.args.format p (seen d) ≡ Err place) same here
+
+pub returns-in-Err-read_checkpoint-clause-calls : goal.returns-in-Err-read_checkpoint-clause-calls
+returns-in-Err-read_checkpoint-clause-calls g c = record {
+  ready = λ at was. c.read_checkpoint.ensures.calls.ready at (c.check_header.ensures.calls.ready at was);
+  calm = tt;
+  fault = subst (λ (x : Channel → ℕ). ReadFaulted c.in-Err-read_checkpoint.fault x (g.H.Host.faults c.read_checkpoint.new.host)) (λ i channel. c.in-Ok.ensures.calls.calm channel i) c.in-Err-read_checkpoint.ensures.calls.fault;
+}
 
 pub returns-in-Err-read_checkpoint-clause-asked : goal.returns-in-Err-read_checkpoint-clause-asked
 returns-in-Err-read_checkpoint-clause-asked g c told = asked_then _ _ _ (c.check_header.ensures.asked told) (c.read_checkpoint.ensures.asked told)

@@ -1,4 +1,4 @@
-use Rattle.std.proofs.Common.{rules, arith, ◌≡◌, ◌++◌, [], List, Option, true, false, fold, Some, None, Ok, Err, refl, sym, ◌∙◌, ap, subst}
+use Rattle.std.proofs.Common.{rules, arith, ◌≡◌, ◌++◌, [], List, Option, true, false, fold, Some, None, Ok, Err, refl, sym, ◌∙◌, ap, subst, ℕ}
 use Rattle.std.proofs.lemmas.Result.{err_from_is_err_and}
 use Rattle.base_types.specs.declared.calls.GrainId.{GrainId}
 use Rattle.base_types.specs.declared.shapes.Shape.{Shape}
@@ -13,6 +13,8 @@ use Rattle.log_reading.specs.Steps.{next_piece_in, IsFollowedBy}
 use Rattle.log_reading.proofs.Errors.{other_value}
 use Rattle.log_reading.proofs.RecordSums.{session_low}
 use Rattle.log_reading.proofs.CheckpointLoop.{last_of, last_more, FollowsPieces, pieces_begin, pieces_on, pieces_end, pieces_break}
+use Rattle.host_trait.specs.declared.channels.Channel.{Channel}
+use Rattle.log_reading.specs.Counts.{ReadFaulted}
 use Rattle.log_reading.proofs.bases.read_checkpoint.Goals as goal
 
 pub loop-saved-init : goal.loop-saved-init
@@ -40,8 +42,28 @@ returns-in_err-piece-clause-damaged g c =
     pieces_break format of_text seen first c.loop-saved.saved gate (inv.pieces told of_text same begins) place
     (subst (λ (s : Shape). next_piece_in format s first (last_of c.loop-saved.saved) gate seen ≡ Err place) (sym same) (subst (λ (l : Option GrainId). next_piece_in format shape first l gate seen ≡ Err place) inv.last there))
 
+pub returns-in_err-piece-clause-calls : goal.returns-in_err-piece-clause-calls
+returns-in_err-piece-clause-calls g c =
+    let p = err_from_is_err_and c.from_residual.result c.from_residual.ensures.1 in
+    let inv = c.loop-saved.invariant in
+    rw (p.1, p.2) record {
+      ready = λ at was. c.next_piece.ensures.calls.ready at (inv.ready at was);
+      calm = tt;
+      fault = subst (λ (x : Channel → ℕ). ReadFaulted c.in_err-piece.field-0.0 x (g.H.Host.faults c.next_piece.new.host)) (λ i channel. inv.calm channel i) c.in_err-piece.ensures.calls.fault;
+    }
+
 pub returns-in_err-piece-clause-asked : goal.returns-in_err-piece-clause-asked
 returns-in_err-piece-clause-asked g c told = asked_then _ _ _ (c.loop-saved.invariant.asked told) (c.next_piece.ensures.asked told)
+
+pub returns-in_err-last-clause-calls : goal.returns-in_err-last-clause-calls
+returns-in_err-last-clause-calls g c =
+    let p = err_from_is_err_and c.from_residual-in_err-last.result c.from_residual-in_err-last.ensures.1 in
+    let inv = c.loop-saved.invariant in
+    rw (p.1, p.2) record {
+      ready = λ at was. c.next_piece.ensures.calls.ready at (inv.ready at was);
+      calm = tt;
+      fault = none_then _ _ _ inv.calm c.in_ok-piece.ensures.calls.calm;
+    }
 
 pub returns-in_err-last-clause-asked : goal.returns-in_err-last-clause-asked
 returns-in_err-last-clause-asked g c told = asked_then _ _ _ (c.loop-saved.invariant.asked told) (c.next_piece.ensures.asked told)
@@ -103,3 +125,12 @@ returns-then-not-piece-clause-bound g c = record {
 
 pub returns-then-not-piece-clause-asked : goal.returns-then-not-piece-clause-asked
 returns-then-not-piece-clause-asked g c told = asked_then _ _ _ (c.loop-saved.invariant.asked told) (c.next_piece.ensures.asked told)
+
+pub returns-then-not-piece-clause-calls : goal.returns-then-not-piece-clause-calls
+returns-then-not-piece-clause-calls g c =
+    let inv = c.loop-saved.invariant in
+    record {
+      ready = λ at was. c.next_piece.ensures.calls.ready at (inv.ready at was);
+      calm = none_then _ _ _ inv.calm c.in_ok-piece.ensures.calls.calm;
+      fault = tt;
+    }

@@ -2,7 +2,9 @@ use Rattle.std.proofs.Common.{rules, arith, ◌≡◌, ◌+◌, ◌^◌, ◌<◌
 use Rattle.std.proofs.lemmas.Result.{err_from_is_err_and}
 use Rattle.field_codec.specs.declared.units.Numbers.TheVariants.{Logged}
 use Rattle.field_codec.specs.Units.{SessionFits}
+use Rattle.base_types.specs.declared.shapes.Shape.{Shape}
 use Rattle.host_trait.specs.World.{Disk}
+use Rattle.host_trait.specs.declared.channels.Channel.{Channel}
 use Rattle.host_trait.specs.declared.channels.FileId.TheVariants.{Manager}
 use Rattle.host_trait.proofs.Runs.{asked_then}
 use Rattle.host_trait.proofs.Counts.{none_then}
@@ -13,6 +15,7 @@ use Rattle.program_file.specs.Programs.{Program, shape_in}
 use Rattle.log_reading.specs.Entries.{entry_said}
 use Rattle.log_reading.specs.declared.faults.FolderFault.{FolderFault}
 use Rattle.log_reading.specs.Blocks.{entries_said, records_read, program_after}
+use Rattle.log_reading.specs.Counts.{ReadFaulted}
 use Rattle.log_reading.specs.Steps.{next_in, log_base_of, IsSaidIn}
 use Rattle.log_reading.specs.Sums.{AreUnitsLow, AddsEntry}
 use Rattle.log_reading.proofs.Errors.{other_value}
@@ -40,7 +43,7 @@ loop-so_far-init g c =
       numbers = (let none = ap length is.later in omega (arith, none));
       read = λ p same.
           let shape : shape_in p ≡ c.in_ok-shape.shape = (λ i. record { types = (ap type_shapes same ∙ sym c.in_ok-shape.ensures) i }) in
-          has_begun g.H.Host.tells c.args.format p seen (log_base_of base) base.gate_at s is.count is.next is.named is.later (is.shape ∙ ap type_shapes (sym same)) is.text (λ told. c.in-Ok.ensures.begins told p shape);
+          has_begun g.H.Host.tells c.args.format p seen (log_base_of base) base.gate_at s is.count is.next is.named is.later (ap (λ (x : Shape). x.types) is.shape ∙ c.in_ok-shape.ensures ∙ ap type_shapes (sym same)) is.text (λ told. c.in-Ok.ensures.begins told p shape);
       asked = c.read_base.ensures.asked;
       calm = c.in-Ok.ensures.calls.calm;
       ready = c.read_base.ensures.calls.ready;
@@ -52,6 +55,11 @@ next_said-requires-clause-shape g c =
     let p : Program = of_first (program_tree c.args.first.now) in
     let h = c.loop-so_far.invariant.read p refl in
     h.shape_is ∙ ap type_shapes (sym (in_force_is g.H.Host.tells c.args.format p _ c.loop-so_far.so_far c.loop-so_far.session c.loop-so_far.gate_at h))
+
+pub returns-in-Err-clause-damaged : goal.returns-in-Err-clause-damaged
+returns-in-Err-clause-damaged g c file place is told p same =
+    let shape : shape_in p ≡ c.in_ok-shape.shape = (λ i. record { types = (ap type_shapes same ∙ sym c.in_ok-shape.ensures) i }) in
+    c.in-Err.ensures.damaged file place (other_value _ (FolderFault.Damaged file place) is) told p shape
 
 pub returns-in_err-own-clause-damaged : goal.returns-in_err-own-clause-damaged
 returns-in_err-own-clause-damaged g c =
@@ -67,6 +75,26 @@ returns-in_err-own-clause-damaged g c =
     let here = c.in_err-own.ensures.damaged file place (other_value _ (FolderFault.Damaged file place) is) told in
     let there : next_in format types session gate (seen (g.H.Host.world c.args.host.now).disk) ≡ Err place = subst (λ (d : Disk). next_in format types session gate (seen d) ≡ Err place) (inv.asked told).disk here in
     has_broken g.H.Host.tells format p _ s session gate (inv.read p same) told place (subst (λ (t : ProgramTree). next_in format (last_program t (map program_tree s.later)) session gate (seen (g.H.Host.world c.args.host.now).disk) ≡ Err place) (sym same) there)
+
+pub returns-in_err-own-clause-file : goal.returns-in_err-own-clause-file
+returns-in_err-own-clause-file g c =
+    let e = err_from_is_err_and c.from_residual-in_err-own.result c.from_residual-in_err-own.ensures.1 in
+    rw (e.1, e.2) λ file place is. c.in_err-own.ensures.file file place (other_value _ (FolderFault.Damaged file place) is)
+
+pub returns-in_err-own-clause-failed : goal.returns-in_err-own-clause-failed
+returns-in_err-own-clause-failed g c =
+    let e = err_from_is_err_and c.from_residual-in_err-own.result c.from_residual-in_err-own.ensures.1 in
+    rw (e.1, e.2) λ file is. c.in_err-own.ensures.failed file (other_value _ (FolderFault.Failed file) is)
+
+pub returns-in_err-own-clause-calls : goal.returns-in_err-own-clause-calls
+returns-in_err-own-clause-calls g c =
+    let e = err_from_is_err_and c.from_residual-in_err-own.result c.from_residual-in_err-own.ensures.1 in
+    let inv = c.loop-so_far.invariant in
+    rw (e.1, e.2) record {
+      ready = λ file was. c.next_said.ensures.calls.ready file (inv.ready file was);
+      calm = tt;
+      fault = subst (λ (x : Channel → ℕ). ReadFaulted c.in_err-own.field-0.0 x (g.H.Host.faults c.next_said.new.host)) (λ i channel. inv.calm channel i) c.in_err-own.ensures.calls.fault;
+    }
 
 pub returns-in_err-own-clause-asked : goal.returns-in_err-own-clause-asked
 returns-in_err-own-clause-asked g c told = asked_then _ _ _ (c.loop-so_far.invariant.asked told) (c.next_said.ensures.asked told)
@@ -87,6 +115,16 @@ add_said-requires-clause-few g c =
 
 pub returns-in_err-add_said-clause-asked : goal.returns-in_err-add_said-clause-asked
 returns-in_err-add_said-clause-asked g c told = asked_then _ _ _ (c.loop-so_far.invariant.asked told) (c.next_said.ensures.asked told)
+
+pub returns-in_err-add_said-clause-calls : goal.returns-in_err-add_said-clause-calls
+returns-in_err-add_said-clause-calls g c =
+    let e = err_from_is_err_and c.from_residual-in_err-add_said.result c.from_residual-in_err-add_said.ensures.1 in
+    let inv = c.loop-so_far.invariant in
+    rw (e.1, e.2) record {
+      ready = λ file was. c.next_said.ensures.calls.ready file (inv.ready file was);
+      calm = tt;
+      fault = none_then _ _ _ inv.calm c.in_ok-own.ensures.calls.calm;
+    }
 
 pub loop-so_far-preserved : goal.loop-so_far-preserved
 loop-so_far-preserved g c =
@@ -142,3 +180,12 @@ returns-clause-log g c p same =
 
 pub returns-clause-asked : goal.returns-clause-asked
 returns-clause-asked g c told = asked_then _ _ _ (c.loop-so_far.invariant.asked told) (c.next_said.ensures.asked told)
+
+pub returns-clause-calls : goal.returns-clause-calls
+returns-clause-calls g c =
+    let inv = c.loop-so_far.invariant in
+    record {
+      ready = λ file was. c.next_said.ensures.calls.ready file (inv.ready file was);
+      calm = none_then _ _ _ inv.calm c.in_ok-own.ensures.calls.calm;
+      fault = tt;
+    }

@@ -1,4 +1,4 @@
-use Rattle.std.proofs.Common.{rules, ◌+◌, map, drop, get_or, refl, ◌∙◌, ap, subst}
+use Rattle.std.proofs.Common.{rules, ◌+◌, map, drop, get_or, refl, ◌∙◌, ap, subst, ℕ}
 use Rattle.std.proofs.lemmas.Result.{err_from_is_err_and}
 use Rattle.base_types.specs.declared.calls.GrainId.{GrainId}
 use Rattle.base_types.specs.Stores.{state_in}
@@ -11,6 +11,8 @@ use Rattle.log_reading.specs.Steps.{seen_in}
 use Rattle.log_reading.specs.PlacedVersions.{state_reread, IsUnreadAt}
 use Rattle.log_reading.proofs.RecordSums.{next_default, no_item}
 use Rattle.log_reading.proofs.PlacedVersions.{reread_more, reread_all}
+use Rattle.host_trait.specs.declared.channels.Channel.{Channel}
+use Rattle.log_reading.specs.Counts.{ReadFaulted}
 use Rattle.log_reading.proofs.placed.read_each.Goals as goal
 
 abbrev no_grain : GrainId
@@ -30,6 +32,16 @@ returns-in_err-read_state-clause-unread g c =
     let x : GrainId = get_or c.args.grains.now c.loop-grain.grain-index no_grain in
     rw (p.1, p.2) λ told.
     (x, subst (λ (d : Disk). IsUnreadAt c.args.slot c.args.format c.args.shapes.now (seen_in d) x (placed_in c.args.places.now x) c.in_err-read_state.field-0.0) (c.loop-grain.invariant.asked told).disk (c.in_err-read_state.ensures.unread told))
+
+pub returns-in_err-read_state-clause-calls : goal.returns-in_err-read_state-clause-calls
+returns-in_err-read_state-clause-calls g c =
+    let p = err_from_is_err_and c.from_residual.result c.from_residual.ensures.1 in
+    let inv = c.loop-grain.invariant in
+    rw (p.1, p.2) record {
+      ready = λ file was. c.read_state.ensures.calls.ready file (inv.ready file was);
+      calm = tt;
+      fault = subst (λ (x : Channel → ℕ). ReadFaulted c.in_err-read_state.field-0.0 x (g.H.Host.faults c.read_state.new.host)) (λ i channel. inv.calm channel i) c.in_err-read_state.ensures.calls.fault;
+    }
 
 pub returns-in_err-read_state-clause-asked : goal.returns-in_err-read_state-clause-asked
 returns-in_err-read_state-clause-asked g c told = asked_then _ _ _ (c.loop-grain.invariant.asked told) (c.read_state.ensures.asked told)

@@ -19,6 +19,8 @@ use Rattle.log_reading.proofs.FilePieces.{still_piece}
 use Rattle.log_reading.proofs.RecordSums.{next_default, no_item}
 use Rattle.log_reading.proofs.StepFaults.{versions_unread}
 use Rattle.log_reading.proofs.NamedVersions.{passed_none, passed_more, passed_all, passed_here, stops_here, place_more, place_all, end_more, end_all, near_more, program_more}
+use Rattle.host_trait.specs.declared.channels.Channel.{Channel}
+use Rattle.log_reading.specs.Counts.{ReadFaulted}
 use Rattle.log_reading.proofs.versions.read_versions.Goals as goal
 
 abbrev no_name : Named
@@ -61,6 +63,16 @@ returns-in_err-refill-clause-unread g c =
 pub returns-in_err-refill-clause-asked : goal.returns-in_err-refill-clause-asked
 returns-in_err-refill-clause-asked g c told = asked_then _ _ _ (c.loop-one.invariant.asked told) (c.refill.ensures.asked told)
 
+pub returns-in_err-refill-clause-calls : goal.returns-in_err-refill-clause-calls
+returns-in_err-refill-clause-calls g c =
+    let p = err_from_is_err_and c.from_residual.result c.from_residual.ensures.1 in
+    let inv = c.loop-one.invariant in
+    rw (p.1, p.2) record {
+      ready = λ file was. c.refill.ensures.calls.ready file (inv.ready file was);
+      calm = tt;
+      fault = subst (λ (x : Channel → ℕ). ReadFaulted c.in_err-refill.field-0.0 x (g.H.Host.faults c.refill.new.host)) (λ i channel. inv.calm channel i) c.in_err-refill.ensures.calls.fault;
+    }
+
 pub numbered_version-requires-clause-piece : goal.numbered_version-requires-clause-piece
 numbered_version-requires-clause-piece g c =
     still_piece _ _ _ _ _ (λ told. ap seen_in (sym (c.refill.ensures.asked told).disk)) c.in_ok-refill.ensures.piece
@@ -90,6 +102,16 @@ returns-in_err-version-clause-unread g c =
 
 pub returns-in_err-version-clause-asked : goal.returns-in_err-version-clause-asked
 returns-in_err-version-clause-asked g c told = asked_then _ _ _ (asked_then _ _ _ (c.loop-one.invariant.asked told) (c.refill.ensures.asked told)) (c.numbered_version.ensures.asked told)
+
+pub returns-in_err-version-clause-calls : goal.returns-in_err-version-clause-calls
+returns-in_err-version-clause-calls g c =
+    let p = err_from_is_err_and c.from_residual-in_err-version.result c.from_residual-in_err-version.ensures.1 in
+    let calm = none_then _ _ _ c.loop-one.invariant.calm c.in_ok-refill.ensures.calls.calm in
+    rw (p.1, p.2) record {
+      ready = λ file was. c.numbered_version.ensures.calls.ready file (c.refill.ensures.calls.ready file (c.loop-one.invariant.ready file was));
+      calm = tt;
+      fault = subst (λ (x : Channel → ℕ). ReadFaulted c.in_err-version.field-0.0 x (g.H.Host.faults c.numbered_version.new.host)) (λ i channel. calm channel i) c.in_err-version.ensures.calls.fault;
+    }
 
 pub returns-in_err-keep-clause-asked : goal.returns-in_err-keep-clause-asked
 returns-in_err-keep-clause-asked g c told = asked_then _ _ _ (asked_then _ _ _ (c.loop-one.invariant.asked told) (c.refill.ensures.asked told)) (c.numbered_version.ensures.asked told)
