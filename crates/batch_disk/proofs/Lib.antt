@@ -13,3 +13,4 @@ pub mod VoteAnswers
 pub mod SealSteps
 pub mod FileEnds
 pub mod Journal
+pub mod LastReads

@@ -23,8 +23,6 @@ use Rattle.commit_log.specs.declared.records.CommitRecord.{CommitRecord}
 use Rattle.commit_log.specs.declared.gate.Sealing.{Sealing}
 use Rattle.commit_log.specs.declared.gate.Sealing.TheVariants.{NotSealed, InDoubt}
 use Rattle.commit_log.specs.SealImages.{staged, EndsAs, IsNextBlock, LogsAs, DoubtAs}
-use Rattle.commit_log.specs.declared.contents.Body.TheVariants as body
-use Rattle.commit_log.specs.Sessions.{spelling_with_session}
 use Rattle.commit_log.specs.Spelling.{RecordsFit}
 use Rattle.core_model.specs.declared.effects.Effect.{Effect}
 use Rattle.promise_spec.specs.Records.{Commit}

@@ -10,7 +10,9 @@ use Rattle.script_tree.specs.Programs.{ProgramTree}
 use Rattle.program_file.specs.Succession.{ArePrograms}
 use Rattle.host_trait.specs.World.{World, Disk}
 use Rattle.gate_block.specs.Gates.{IsClosedAt}
+use Rattle.host_trait.specs.declared.channels.FileId.{FileId}
 use Rattle.host_trait.specs.declared.channels.FileId.TheVariants.{Manager, Grain}
+use Rattle.host_trait.specs.Files.{StaysReady}
 use Rattle.promise_spec.specs.Entries.{Log}
 use Rattle.batch_disk.specs.ImagesAtRest.{EachImage, write_end, Voted, PlacesAreNamed, IsAtRest}
 use Rattle.program_file.specs.ProgramsInTurn.{programs_in, newest_in, HasShapes}
@@ -77,6 +79,12 @@ FitsDisk writer disk = FitsSlot writer.slot writer disk
 pub record IsSafe (tells : Bool) (writer : BatchWriter) (now : World) : Type 0 where
   pub bounds : IsInBounds writer
   pub fits : IsTrue tells → FitsDisk writer now.disk
+
+-- What a call leaves of the host that the writer's folder is on: the writer can go on, and each file that was ready is.
+pub record StaysSafe {Host : Type 0} (tells : Bool) (is_ready : Host → FileId → Bool) (world : Host → World) (writer : BatchWriter) (old new : Host)
+    : Type 0 where
+  pub safe : IsSafe tells writer (world new)
+  pub ready : StaysReady (is_ready old) (is_ready new)
 
 -- What the writer keeps of the folder, where this slot is live: its gate and its ends are those of this log, whose blocks have these
 -- bodies, in each image, where what the votes wrote stands; and no session so far is above its own.

@@ -43,20 +43,9 @@ use Rattle.promise_laws.proofs.SettledLogs.{settled_logs}
 use Rattle.silo_opening.specs.declared.opened_silo.Opened.{Opened}
 use Rattle.silo_opening.specs.OpenedSilo.{program_in, programs_of, shapes_of, IsOpenedIn, IsOpenedFrom, IsLatest, AreLatest}
 use Rattle.silo_opening.proofs.OpeningCalls.{long_opened, opens_same, opens_and_asked, opens_untouched}
-use Rattle.checkpoint.specs.declared.compaction.Next.{Next}
-use Rattle.checkpoint.specs.NextGeneration.{IsOnTheWay, IsLastVersionOf, IsMadeOf}
+use Rattle.checkpoint.specs.NextGeneration.{IsOnTheWay, IsLastVersionOf, IsMadeOf, next_of}
 use Rattle.checkpoint.specs.Copies.{AreThere}
 use Rattle.checkpoint.proofs.NamedVersions.{IsNamedIn, latest_named_in, checked_behind}
-
--- what the next generation of an opened silo is made of
-abbrev pub next_of : Opened → List Named → Next
-next_of o latest = record {
-  live = o.slot;
-  generation = o.generation + 1;
-  text = o.text;
-  head = record { count = o.count; next_unit = o.next_unit; session = o.session };
-  latest = latest;
-}
 
 -- the last versions, with what the log says of each
 one_named : (o : Opened) (image : Image) (log : Log) (n : Named) → IsLatest image o log n → IsNamedIn o.slot (shapes_of o) image n → IsLastVersionOf o.slot (programs_of o) image log n

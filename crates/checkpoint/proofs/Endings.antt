@@ -1,12 +1,13 @@
 -- How `compact` and `migrate` end, and what is shown then.
-use Rattle.std.proofs.Common.{◌≡◌, ◌≢◌, ◌⊎◌, inl, inr, ℕ, zero, suc, ◌<◌, ◌≤◌, ◌^◌, false, List, refl, sym, ◌∙◌, subst, arith}
+use Rattle.std.proofs.Common.{◌≡◌, ◌≢◌, ◌⊎◌, inl, inr, ℕ, zero, suc, ◌<◌, ◌≤◌, ◌^◌, false, List, length, refl, sym, ◌∙◌, ap, subst, arith}
 use Rattle.std.proofs.lemmas.Bool.{cases_lt}
 use Rattle.host_trait.specs.declared.channels.Channel.{Channel}
 use Rattle.host_trait.specs.declared.channels.FileId.{FileId}
 use Rattle.host_trait.specs.declared.channels.FileId.TheVariants.{Manager}
 use Rattle.host_trait.specs.Faults.{NoneFailed}
 use Rattle.host_trait.specs.Runs.{OnlyAsked}
-use Rattle.host_trait.specs.World.{World}
+use Rattle.host_trait.specs.Disk.{settled}
+use Rattle.host_trait.specs.World.{World, Disk}
 use Rattle.field_codec.specs.declared.formats.Format.{Format}
 use Rattle.field_codec.specs.declared.formats.Format.TheVariants.{One, Two}
 use Rattle.log_reading.specs.declared.faults.FolderFault.{FolderFault}
@@ -17,7 +18,7 @@ use Rattle.silo_spec.specs.OpenedDisks.{opened_disk, opening_syncs, OnlyOpens}
 use Rattle.promise_spec.specs.Entries.{checkpointed}
 use Rattle.promise_spec.specs.Openings.{Reading, reading_in}
 use Rattle.promise_spec.specs.Words.{Manner}
-use Rattle.promise_spec.specs.Endings.{Ending, Done, LastGeneration, HasFailedAs}
+use Rattle.promise_spec.specs.Endings.{Ending, Done, BadUse, LastGeneration, HasFailedAs}
 use Rattle.promise_spec.specs.Courses.{Observed}
 use Rattle.promise_spec.specs.Images.{IsWholeFolder}
 use Rattle.promise_spec.specs.Refusals.{IsEitherManager, MustBeRead, IsRefusedBy, IsUnopenedIn}
@@ -27,7 +28,8 @@ use Rattle.silo_opening.specs.declared.faults.OpenFault.{OpenFault}
 use Rattle.silo_opening.specs.declared.opened_silo.Opened.{Opened}
 use Rattle.silo_opening.specs.Counts.{OpenFaulted}
 use Rattle.silo_opening.specs.OpenedSilo.{in_folder, ending_of, IsOpenedIn, IsOpenedFrom}
-use Rattle.silo_opening.proofs.OpeningCalls.{opens_untouched}
+use Rattle.silo_opening.proofs.OpeningCalls.{opened_seen, long_opened, opens_untouched}
+use Rattle.checkpoint.specs.Steps.{LastsIfLong}
 use Rattle.checkpoint.proofs.Compacted.{read_so, generation_so, opens_too, untouched}
 
 -- ---- faults
@@ -52,6 +54,15 @@ calm_before e before mid after none fails = subst (λ (f : Channel → ℕ). Has
 pub calm_then : (before mid after : Channel → ℕ) → NoneFailed before mid → NoneFailed mid after → NoneFailed before after
 calm_then before mid after first second channel = second channel ∙ first channel
 
+-- no fault is told as bad use
+pub never_bad_use : (e : OpenFault) → ending_of e ≡ BadUse → ⊥
+never_bad_use OpenFault.NotASilo same = cc
+never_bad_use OpenFault.OldFormat same = cc
+never_bad_use (OpenFault.Damaged file place) same = cc
+never_bad_use (OpenFault.DiskFault file) same = cc
+never_bad_use OpenFault.LastGeneration same = cc
+never_bad_use OpenFault.Memory same = cc
+
 pub never_done : (fault : FolderFault) → ending_of (in_folder fault) ≡ Done → ⊥
 never_done (FolderFault.Damaged file place) same = cc
 never_done (FolderFault.Failed file) same = cc
@@ -62,6 +73,15 @@ pub not_damaged : {A : Type 0} (fault : FolderFault) → ((file : FileId) (place
 not_damaged (FolderFault.Damaged file place) none = absurd (none file place refl)
 not_damaged (FolderFault.Failed file) none = inr (inr tt)
 not_damaged FolderFault.Memory none = inr (inl refl)
+
+-- ---- what lasts
+
+-- each slot's manager file that is long enough, once the folder was opened
+pub opened_lasts : (slot : ℕ) (disk now : Disk) → slot ≤ 1 → now ≡ opened_disk disk → LastsIfLong (now (Manager slot))
+opened_lasts slot disk now low is =
+    let seen = opened_seen (Manager slot) (disk (Manager slot)) in
+    subst (λ (d : Disk). LastsIfLong (d (Manager slot))) (sym is)
+    (λ long. long_opened slot (disk (Manager slot)) low (subst (λ (l : List ℕ). 16 ≤ length l) seen long) ∙ ap settled (sym seen))
 
 -- ---- what is shown
 

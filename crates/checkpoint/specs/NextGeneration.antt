@@ -18,6 +18,7 @@ use Rattle.promise_spec.specs.Programs.{Program, IsChecked}
 use Rattle.promise_spec.specs.Entries.{Log, standing_of, checkpointed}
 use Rattle.promise_spec.specs.Logs.{IsMagic, IsLogOf}
 use Rattle.promise_spec.specs.EitherSlot.{AllEither, KeepsSlot, IsCompactable}
+use Rattle.silo_opening.specs.declared.opened_silo.Opened.{Opened}
 use Rattle.checkpoint.specs.declared.compaction.Next.{Next}
 
 -- A moment on the way: nothing was emitted, the live slot's files are as they were, and each image has one of the two logs, that of the
@@ -74,6 +75,16 @@ pub record IsQuietly (old new : World) : Type 0 where
   pub quiet : new.output ≡ old.output
   pub unread : new.input ≡ old.input
   pub clock : Arrives old new
+
+-- what the next generation of an opened silo is made of
+abbrev pub next_of : Opened → List Named → Next
+next_of o latest = record {
+  live = o.slot;
+  generation = o.generation + 1;
+  text = o.text;
+  head = record { count = o.count; next_unit = o.next_unit; session = o.session };
+  latest = latest;
+}
 
 -- A slot, a text and numbers that a checkpoint may have.
 pub record MayBeWritten (next : Next) : Type 0 where

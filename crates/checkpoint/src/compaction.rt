@@ -1,5 +1,4 @@
-ghost use Rattle.std.specs.Prelude.{◌≡◌, ◌-◌, ℕ, List as AList, IsTrue, OnOk, IsErrOf, None, Ok, map};
-ghost use Rattle.host_trait.specs.Files.{StaysReady};
+ghost use Rattle.std.specs.Prelude.{◌≡◌, ◌≢◌, ◌⊎◌, ◌-◌, ◌^◌, ◌<◌, ℕ, List as AList, IsTrue, IfOk, IfErr, OnOk, IsErrOf, None, Ok, map};
 ghost use Rattle.host_trait.specs.Faults.{HasCalled};
 ghost use Rattle.host_trait.specs.declared.channels.FileId.{FileId as AFile};
 ghost use Rattle.host_trait.specs.declared.channels.FileId.TheVariants.{Manager};
@@ -11,12 +10,14 @@ ghost use Rattle.log_reading.specs.Steps.{seen_in};
 ghost use Rattle.checkpoint.specs.Copies.{AreThere};
 ghost use Rattle.checkpoint.specs.Steps.{LastsIfLong};
 ghost use Rattle.checkpoint.specs.KeptSessions.{HasFilled, KeepsSession};
-ghost use Rattle.checkpoint.specs.NextGeneration.{FillsOtherSlot, IsQuietly, MayBeWritten};
+ghost use Rattle.checkpoint.specs.NextGeneration.{FillsOtherSlot, IsQuietly, MayBeWritten, next_of};
 ghost use Rattle.promise_spec.specs.Words.{Manner};
-ghost use Rattle.promise_spec.specs.Endings.{HasFailedAs, BadUse};
+ghost use Rattle.promise_spec.specs.Endings.{BadUse};
 ghost use Rattle.promise_spec.specs.Compaction.{Compacts};
 ghost use Rattle.log_reading.specs.Counts.{ReadFaulted};
 ghost use Rattle.silo_opening.specs.OpenedSilo.{in_folder};
+ghost use Rattle.silo_opening.specs.declared.faults.OpenFault.{OpenFault as AnOpenFault};
+ghost use Rattle.silo_opening.specs.CommandCalls.{HasCalledAs};
 ghost use Rattle.checkpoint.specs.Endings.{compact_ending, compacted_as};
 
 use crate::copies::copy_versions;
@@ -43,6 +44,46 @@ struct Next {
     text: List<u8>,
     head: CheckpointHead,
     latest: List<Named>,
+}
+
+// No generation follows the last one, and no checkpoint says a count that isn't below 2 to the 63.
+fn refuse_last(opened: &Opened) -> Result<(), OpenFault>
+    ensures may { OnOk result ((opened.now.generation ≢ 4294967295) × (opened.now.count < 2 ^ 63)) }
+    ensures refused { IfErr result (λ e. ((e ≡ AnOpenFault.LastGeneration) × (opened.now.generation ≡ 4294967295)) ⊎ (e ≡ AnOpenFault.Memory)) }
+{
+    if opened.generation == u32::MAX {
+        return Err(OpenFault::LastGeneration);
+    }
+    if opened.count >= COUNT_LIMIT {
+        return Err(OpenFault::Memory);
+    }
+    Ok(())
+}
+
+// What the next generation is made of, and the programs of the log in turn.
+fn next_of(
+    alloc: Global,
+    opened: Opened,
+    latest: List<Named>,
+) -> Result<(ProgramsInTurn, Next), AllocError>
+    requires { opened.generation < 4294967295 }
+    ensures next { IfOk result (λ made. made.1 ≡ next_of opened latest) }
+    ensures programs { IfOk result (λ made. made.0.checked ≡ opened.programs) }
+    ensures shapes { IfOk result (λ made. HasShapes made.0) }
+{
+    let programs = ProgramsInTurn::new(alloc, opened.programs)?;
+    let next = Next {
+        live: opened.slot,
+        generation: opened.generation + 1,
+        text: opened.text,
+        head: CheckpointHead {
+            count: opened.count,
+            next_unit: opened.next_unit,
+            session: opened.session,
+        },
+        latest,
+    };
+    Ok((programs, next))
 }
 
 // Writes the files of the slot that isn't live, behind a closed header gate that is opened at the end.
@@ -122,36 +163,31 @@ pub fn compact<H: Host>(alloc: Global, host: &mut H) -> Result<(), OpenFault>
     ensures session { OnOk result (IsTrue H.tells → KeepsSession (H.world host.old) (H.world host.new)) }
 
     // A fault of a file is answered exactly where a call on it failed: its count rose, and no other changed. With another answer no
-    // count has changed.
-    ensures exact { HasFailedAs (compact_ending result) (H.faults host.old) (H.faults host.new) }
+    // count has changed. Each file that was ready is.
+    ensures calls { HasCalledAs (compact_ending result) H.is_ready H.faults host.old host.new }
     ensures good { compact_ending result ≡ BadUse → ⊥ }
-    ensures ready { StaysReady (H.is_ready host.old) (H.is_ready host.new) }
 {
     let opened = open_silo(alloc, host)?;
-    if opened.generation == u32::MAX {
-        return Err(OpenFault::LastGeneration);
-    }
-    if opened.count >= COUNT_LIMIT {
-        return Err(OpenFault::Memory);
-    }
-    let latest = latest_versions(alloc, host, &opened)?;
-    let programs = match ProgramsInTurn::new(alloc, opened.programs) {
-        Ok(programs) => programs,
+    refuse_last(&opened)?;
+    let latest = match latest_versions(alloc, host, &opened) {
+        Ok(latest) => latest,
+        Err(fault) => {
+            drop(opened);
+            return Err(fault);
+        }
+    };
+    let (programs, next) = match next_of(alloc, opened, latest) {
+        Ok(made) => made,
         Err(AllocError) => return Err(OpenFault::Memory),
     };
-    let next = Next {
-        live: opened.slot,
-        generation: opened.generation + 1,
-        text: opened.text,
-        head: CheckpointHead {
-            count: opened.count,
-            next_unit: opened.next_unit,
-            session: opened.session,
-        },
-        latest,
-    };
     match fill(alloc, host, &programs, next) {
-        Ok(()) => Ok(()),
-        Err(fault) => Err(folder_fault(fault)),
+        Ok(()) => {
+            drop(programs);
+            Ok(())
+        }
+        Err(fault) => {
+            drop(programs);
+            Err(folder_fault(fault))
+        }
     }
 }

@@ -1,5 +1,4 @@
 ghost use Rattle.std.specs.Prelude.{◌≡◌, ◌-◌, ◌+◌, ◌^◌, ◌<◌, ◌≤◌, ℕ, List as AList, IsTrue, IfOk, OnOk, IsErrOf, length};
-ghost use Rattle.host_trait.specs.Files.{StaysReady};
 ghost use Rattle.host_trait.specs.Faults.{HasCalled};
 ghost use Rattle.host_trait.specs.declared.channels.FileId.{FileId as AFile};
 ghost use Rattle.host_trait.specs.declared.channels.FileId.TheVariants.{Manager};
@@ -7,8 +6,9 @@ ghost use Rattle.log_reading.specs.declared.faults.FolderFault.{FolderFault as A
 ghost use Rattle.log_reading.specs.Counts.{ReadFaulted};
 ghost use Rattle.promise_spec.specs.Entries.{Log};
 ghost use Rattle.promise_spec.specs.Words.{Manner};
-ghost use Rattle.promise_spec.specs.Endings.{HasFailedAs, BadUse};
+ghost use Rattle.promise_spec.specs.Endings.{BadUse};
 ghost use Rattle.promise_spec.specs.Migration.{Migrates};
+ghost use Rattle.silo_opening.specs.CommandCalls.{HasCalledAs};
 ghost use Rattle.checkpoint.specs.Steps.{LastsIfLong};
 ghost use Rattle.checkpoint.specs.NextGeneration.{HasNextSilo, IsQuietly};
 ghost use Rattle.checkpoint.specs.Migration.{IsOldOf, CanBeCopied, MayCopy, CopiesOtherSlot};
@@ -108,10 +108,9 @@ pub fn migrate<H: Host>(alloc: Global, host: &mut H) -> Result<(), MigrateFault>
         → Migrates (migrated_as manner asked (H.world host.old) (H.world host.new) (H.faults host.old) (H.faults host.new) result) }
 
     // A fault of a file is answered exactly where a call on it failed: its count rose, and no other changed. With another answer no
-    // count has changed.
-    ensures exact { HasFailedAs (migrate_ending result) (H.faults host.old) (H.faults host.new) }
+    // count has changed. Each file that was ready is.
+    ensures calls { HasCalledAs (migrate_ending result) H.is_ready H.faults host.old host.new }
     ensures good { migrate_ending result ≡ BadUse → ⊥ }
-    ensures ready { StaysReady (H.is_ready host.old) (H.is_ready host.new) }
 {
     let opened = match open_silo_in(alloc, host, Format::One) {
         Ok(Some(opened)) => opened,
@@ -119,6 +118,7 @@ pub fn migrate<H: Host>(alloc: Global, host: &mut H) -> Result<(), MigrateFault>
         Err(fault) => return Err(MigrateFault::Open(fault)),
     };
     if opened.generation == u32::MAX {
+        drop(opened);
         return Err(MigrateFault::Open(OpenFault::LastGeneration));
     }
     let silo = match old_silo(alloc, opened) {
@@ -126,7 +126,13 @@ pub fn migrate<H: Host>(alloc: Global, host: &mut H) -> Result<(), MigrateFault>
         Err(AllocError) => return Err(MigrateFault::Open(OpenFault::Memory)),
     };
     match copy_silo(alloc, host, &silo) {
-        Ok(()) => Ok(()),
-        Err(fault) => Err(MigrateFault::Open(folder_fault(fault))),
+        Ok(()) => {
+            drop(silo);
+            Ok(())
+        }
+        Err(fault) => {
+            drop(silo);
+            Err(MigrateFault::Open(folder_fault(fault)))
+        }
     }
 }

@@ -17,7 +17,6 @@ use Rattle.core_model.specs.ProperEntries.{HasUnitOf}
 use Rattle.core_model.specs.Tests.{any}
 use Rattle.core_model.specs.declared.events.CoreEvent.{CoreEvent}
 use Rattle.core_model.specs.declared.events.CoreEvent.TheVariants.{Begin}
-use Rattle.core_model.specs.declared.events.CoreReply.{CoreReply}
 use Rattle.core_model.specs.declared.events.CoreReply.TheVariants as reply
 use Rattle.core_laws.proofs.Numbers.{numbered-ends}
 use Rattle.core_laws.proofs.Proper.{has-unit-ends}

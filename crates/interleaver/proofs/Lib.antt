@@ -22,5 +22,6 @@ pub mod Rooms
 pub mod RunStart
 pub mod TurnSequence
 pub mod RecordFrame
+pub mod EndedTurns
 pub mod RunContinuation
 pub mod WindowSequence

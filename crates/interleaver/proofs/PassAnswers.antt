@@ -160,13 +160,6 @@ module _ (keeps : OthersKeep) (tells : Bool) (o : Outset) (types : ProgramTree) 
             ends w x (Err fault) is on =
                 load-ends keeps tells o lines b s index u w sure calm asking there s' (wish-runs o.program.types x) units used begun settler counts world {T = T} at'' moved fault on
 
--- no answer is a value and a fault
-pub done-fails : {A : Type 0} (T : Type 0) (done : T) (f : RunFault) (result : Result T RunFault) → result ≡ Ok done → result ≡ Err f → A
-done-fails T done f result well ill = absurd (apart (sym well ∙ ill))
-  where
-    apart : Ok done ≡ Err f → ⊥
-    apart q = absurd cc
-
 -- ---- where the pass begins and ends
 
 -- whatever pass stands, no line may begin

@@ -3,3 +3,4 @@ pub mod LastLook
 pub mod Turns
 pub mod TurnStages
 pub mod SureUnits
+pub mod EndedTurns

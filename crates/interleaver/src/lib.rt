@@ -20,6 +20,7 @@
 //!   events have applied. No bound on the events of a run is proved, and so not that no run comes to that end.
 #![tactic(auto)]
 
+mod ended_turns;
 mod flights;
 mod laws;
 mod movers;

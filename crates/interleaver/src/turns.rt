@@ -1,5 +1,4 @@
 ghost use Rattle.std.specs.Prelude.{◌≡◌, ◌&&◌, not, is_some, ◌+◌, ◌-◌, ◌<◌, ◌≤◌, ◌^◌, ◌⊎◌, ℕ, List as AList, Some, true, false, IfOk, IfErr, OnErr, length};
-ghost use Rattle.host_trait.specs.Files.{StaysReady};
 ghost use Rattle.cell_model.specs.Units.{UnitsAscend};
 ghost use Rattle.core_model.specs.CoreState.{UnitNo as AUnit, Member};
 ghost use Rattle.core_model.specs.LegalRuns.{Run, ends};
@@ -23,8 +22,9 @@ ghost use Rattle.interleaver.specs.LastLook.{IsLooked, looked_after};
 ghost use Rattle.interleaver.specs.SureUnits.{AreSure, AreSureFrom, LackNone, LacksNone, SureBySpace};
 ghost use Rattle.interleaver.specs.Turns.{TurnsCarry, WhereTurnsBegin};
 ghost use Rattle.interleaver.specs.TurnStages.{turn_stage, AsksOne, BeganOn, HoldsUnits, LeavesTurns, LoadsBy, LoadsOne, MoveGoesOn, MovedOn, PassGoesOn, PickedGoesOn, SettlesBy, SettlesOne, StepLoads, StepSettles, TurnGoesOn};
-ghost use Rattle.run_books.specs.Stages.{stage_of, IsSafe};
+ghost use Rattle.run_books.specs.Stages.{stage_of, IsSafe, StaysSafe};
 
+use crate::ended_turns::ended_by;
 use crate::flights::{drop_unless_doubted, lines_in};
 use crate::movers::{NextMover, next_mover, pick_at};
 use base_types::{List, Shape, UnitNo};
@@ -34,7 +34,7 @@ use request_wire::Line;
 use run_books::RunFault;
 use run_lines::Lines;
 use script_check::Checked;
-use settle_loop::{Gate, GatePlace, Settler, StopCause, Turned};
+use settle_loop::{Gate, GatePlace, Settler};
 use std::alloc::{AllocError, Global};
 use unit_carrier::{Agents, Went, begin_line};
 
@@ -76,19 +76,10 @@ fn settle<H: Host, G: Gate>(
     ensures beside { TurnsBeside H.tells
         (stage_of H.world H.faults (run_of core.old) settler.old host.old)
         (stage_of H.world H.faults (run_of core.new) settler.new host.new) result }
-    ensures safe { IsSafe H.tells settler.new.writer (H.world host.new) }
-    ensures ready { StaysReady (H.is_ready host.old) (H.is_ready host.new) }
+    ensures safe { StaysSafe H.tells H.is_ready H.world settler.new.writer host.old host.new }
 {
-    match settler.step(shape, core, host, gate)? {
-        Turned::Stepped => Ok(()),
-        Turned::Nothing => Ok(()),
-        Turned::Stop(StopCause::InDoubt) => Err(RunFault::InDoubt),
-        Turned::Stop(StopCause::WriteFault) => Err(RunFault::WriteFault),
-        Turned::Stop(StopCause::LoadFault { file }) => Err(RunFault::LoadFault { file }),
-        Turned::Stop(StopCause::LoadDamaged { file, place }) => {
-            Err(RunFault::LoadDamaged { file, place })
-        }
-    }
+    let turned = settler.step(shape, core, host, gate)?;
+    ended_by(turned)
 }
 
 /// The grain that a unit of the pass wants is brought into memory.
@@ -108,19 +99,10 @@ fn load<H: Host>(
         (stage_of H.world H.faults (run_of core.old) settler.old host.old)
         (stage_of H.world H.faults (run_of core.new) settler.new host.new) result }
     ensures doubted { settler.new.doubted ≡ settler.old.doubted }
-    ensures safe { IsSafe H.tells settler.new.writer (H.world host.new) }
-    ensures ready { StaysReady (H.is_ready host.old) (H.is_ready host.new) }
+    ensures safe { StaysSafe H.tells H.is_ready H.world settler.new.writer host.old host.new }
 {
-    match settler.load(shape, core, host)? {
-        Turned::Stepped => Ok(()),
-        Turned::Nothing => Ok(()),
-        Turned::Stop(StopCause::InDoubt) => Err(RunFault::InDoubt),
-        Turned::Stop(StopCause::WriteFault) => Err(RunFault::WriteFault),
-        Turned::Stop(StopCause::LoadFault { file }) => Err(RunFault::LoadFault { file }),
-        Turned::Stop(StopCause::LoadDamaged { file, place }) => {
-            Err(RunFault::LoadDamaged { file, place })
-        }
-    }
+    let turned = settler.load(shape, core, host)?;
+    ended_by(turned)
 }
 
 /// Whether a grain that a unit waits for may be brought into memory: memory has a limit, and nothing is in doubt.
@@ -436,14 +418,12 @@ impl Turns {
         ensures units { IfOk result (λ _. HoldsUnits (program_tree checked.now) (run_of core.new) self.new) }
         ensures leaves { LeavesTurns self.old settler.old.doubted self.new settler.new.doubted }
         ensures unsure { self.new.sure ≡ 0 }
-        ensures safe { IsSafe H.tells settler.new.writer (H.world host.new) }
-        ensures ready { StaysReady (H.is_ready host.old) (H.is_ready host.new) }
+        ensures safe { StaysSafe H.tells H.is_ready H.world settler.new.writer host.old host.new }
     {
         if !self.agents.want(self.alloc, checked, core, index)? {
             return Ok(());
         }
-        load(&self.shape, core, settler, host)?;
-        Ok(())
+        load(&self.shape, core, settler, host)
     }
 
     /// The unit at this index is asked, unless it lacks no grain for sure. Answers whether it lacks none behind that, and nothing was put.
@@ -469,8 +449,7 @@ impl Turns {
         ensures lacks { IfOk result (λ sure. sure ≡ true → LacksNone (program_tree checked.now) (run_of core.old) (run_of core.new)
             (unit_at self.old.agents.list.items index)) }
         ensures leaves { LeavesTurns self.old settler.old.doubted self.new settler.new.doubted }
-        ensures safe { IsSafe H.tells settler.new.writer (H.world host.new) }
-        ensures ready { StaysReady (H.is_ready host.old) (H.is_ready host.new) }
+        ensures safe { StaysSafe H.tells H.is_ready H.world settler.new.writer host.old host.new }
     {
         let unit = self.agents.list[index].unit();
         if self.is_sure(unit) {
@@ -509,8 +488,7 @@ impl Turns {
         ensures begun { self.new.begun ≡ self.old.begun }
         ensures used { self.new.used ≡ self.old.used }
         ensures shape { self.new.shape ≡ self.old.shape }
-        ensures safe { IsSafe H.tells settler.new.writer (H.world host.new) }
-        ensures ready { StaysReady (H.is_ready host.old) (H.is_ready host.new) }
+        ensures safe { StaysSafe H.tells H.is_ready H.world settler.new.writer host.old host.new }
     {
         let mut sure = true;
         let mut index = self.next_to_ask(self.front);
@@ -541,8 +519,7 @@ impl Turns {
         ensures begun { self.new.begun ≡ self.old.begun }
         ensures used { self.new.used ≡ self.old.used }
         ensures shape { self.new.shape ≡ self.old.shape }
-        ensures safe { IsSafe H.tells settler.new.writer (H.world host.new) }
-        ensures ready { StaysReady (H.is_ready host.old) (H.is_ready host.new) }
+        ensures safe { StaysSafe H.tells H.is_ready H.world settler.new.writer host.old host.new }
     {
         if !can_miss(core, settler) {
             return Ok(());
@@ -576,8 +553,7 @@ impl Turns {
         ensures used { IfOk result (λ _. self.new.used ≤ self.old.used + 1) }
         ensures goes { IfOk result (λ more. more ≡ true → self.new.begun + self.new.used ≡ self.old.begun + self.old.used + 1) }
         ensures shape { self.new.shape ≡ self.old.shape }
-        ensures safe { IsSafe H.tells settler.new.writer (H.world host.new) }
-        ensures ready { StaysReady (H.is_ready host.old) (H.is_ready host.new) }
+        ensures safe { StaysSafe H.tells H.is_ready H.world settler.new.writer host.old host.new }
     {
         let pick = pick_at(picks, self.used);
         match next_mover(
@@ -624,8 +600,7 @@ impl Turns {
         ensures used { IfOk result (λ _. self.new.used ≤ self.old.used + 1) }
         ensures goes { IfOk result (λ more. more ≡ true → self.new.begun + self.new.used ≡ self.old.begun + self.old.used + 1) }
         ensures shape { self.new.shape ≡ self.old.shape }
-        ensures safe { IsSafe H.tells settler.new.writer (H.world host.new) }
-        ensures ready { StaysReady (H.is_ready host.old) (H.is_ready host.new) }
+        ensures safe { StaysSafe H.tells H.is_ready H.world settler.new.writer host.old host.new }
     {
         self.front = self.agents.freed_front(self.front);
         self.load_pass(checked, core, settler, host)?;
@@ -657,8 +632,7 @@ impl Turns {
         ensures used { IfOk result (λ _. self.new.used ≤ self.old.used + 1) }
         ensures goes { IfOk result (λ more. more ≡ true → self.new.begun + self.new.used ≡ self.old.begun + self.old.used + 1) }
         ensures shape { self.new.shape ≡ self.old.shape }
-        ensures safe { IsSafe H.tells settler.new.writer (H.world host.new) }
-        ensures ready { StaysReady (H.is_ready host.old) (H.is_ready host.new) }
+        ensures safe { StaysSafe H.tells H.is_ready H.world settler.new.writer host.old host.new }
     {
         drop_unless_doubted(
             &mut self.agents,
@@ -723,8 +697,7 @@ pub fn run_turns<H: Host, G: Gate, L: Lines>(
     ensures unused { IfErr result (λ _. used.new ≡ used.old) }
 
     ensures same { L.lines lines.new ≡ L.lines lines.old }
-    ensures safe { IsSafe H.tells settler.new.writer (H.world host.new) }
-    ensures ready { StaysReady (H.is_ready host.old) (H.is_ready host.new) }
+    ensures safe { StaysSafe H.tells H.is_ready H.world settler.new.writer host.old host.new }
 {
     core.show_few();
     let _program = checked.program();

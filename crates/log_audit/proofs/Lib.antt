@@ -15,3 +15,4 @@ pub mod RereadRefusals
 pub mod Versions
 pub mod RereadFaults
 pub mod AuditAnswers
+pub mod RecordMembers

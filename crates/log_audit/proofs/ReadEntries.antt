@@ -1,5 +1,5 @@
 -- Entries that are read block by block, each under the program of its time.
-use Rattle.std.proofs.Common.{◌≡◌, ◌<◌, ℕ, List, [], ◌∷◌, ◌++◌, length, map, Some, None, Result, Ok, Err, refl, sym, ◌∙◌, ap, arith}
+use Rattle.std.proofs.Common.{◌≡◌, ◌<◌, ℕ, List, [], ◌∷◌, ◌++◌, length, map, Option, Some, None, Result, Ok, Err, refl, sym, ◌∙◌, ap, arith}
 use Rattle.std.specs.Prelude.{slice_get}
 use Rattle.std.proofs.lemmas.List.{length-map}
 use Rattle.base_types.specs.declared.shapes.Shape.{Shape}
@@ -38,8 +38,15 @@ some_program o are = (let same : length (programs_of o) ≡ length o.programs = 
     by [] none same = absurd none
     by (first ∷ later) some same = omega (arith, same)
 
+-- the types of the program that these begin with
+pub first_program : (p : Program) (entries : List ReadEntry) (programs : List ProgramTree) → programs ≡ types_read p entries → slice_get programs 0 ≡ Some p.types
+first_program p entries programs are = ap (λ (l : List ProgramTree). slice_get l 0) are
+
+pub same_types : (first : Option ProgramTree) (a b : ProgramTree) → first ≡ Some a → first ≡ Some b → a ≡ b
+same_types first a b one other = (let both : Some a ≡ Some b = sym one ∙ other in cc both)
+
 pub first_types : (p : Program) (entries : List ReadEntry) (programs : List ProgramTree) (types : ProgramTree) → programs ≡ types_read p entries → slice_get programs 0 ≡ Some types → p.types ≡ types
-first_types p entries programs types are first = (let both : Some p.types ≡ Some types = sym (ap (λ (l : List ProgramTree). slice_get l 0) are) ∙ first in cc both)
+first_types p entries programs types are first = same_types _ p.types types (first_program p entries programs are) first
 
 -- its shape is that of a program with its types
 pub shape_same : (p : Program) (now : InForce) → HasShape now → p.types ≡ types_in_force now → shape_in p ≡ now.shape

@@ -3,6 +3,8 @@ use Rattle.std.specs.Prelude.{ℕ, List, length, [], ◌∷◌, ◌++◌, codes,
 use Rattle.std.specs.List.{flat_map}
 use Rattle.base_types.specs.declared.calls.Call.{Call}
 use Rattle.base_types.specs.declared.calls.GrainId.{GrainId}
+use Rattle.base_types.specs.declared.calls.Origin.{Origin}
+use Rattle.base_types.specs.declared.calls.Origin.TheVariants.{Line, Child}
 use Rattle.base_types.specs.declared.calls.Value.{Value}
 use Rattle.base_types.specs.declared.shapes.Shape.{Shape}
 use Rattle.base_types.specs.declared.stores.Store.{Store}
@@ -16,7 +18,7 @@ use Rattle.script_tree.specs.declared.programs.FieldDecl.{FieldDecl}
 use Rattle.script_tree.specs.Programs.{ProgramTree}
 use Rattle.script_meaning.specs.Calls.{numbered}
 use Rattle.script_meaning.specs.Play.{found_in}
-use Rattle.serde_json.specs.Data.{Data, string, array, object, member, no_members}
+use Rattle.serde_json.specs.Data.{unsigned, Data, Members, number, string, array, object, member, no_members, put}
 use Rattle.promise_spec.specs.Reports.{line_of, fields_data, items_of, method_name, ended_as, unit_data}
 
 -- the fields of the type of this number
@@ -41,6 +43,11 @@ count_data count = object (counted (codes "count") count no_members)
 abbrev pub call_named : Shape → ProgramTree → Call → List ℕ
 call_named shape types call =
     grain_text shape call.grain ++ (46 ∷ method_name (numbered (slice_get types call.grain.kind) call.method))
+
+-- members, with the count of an origin under its name
+abbrev pub origin_put : Origin → Members → Members
+origin_put (Line n) rest = put (codes "n") (number (unsigned n)) rest
+origin_put (Child parent index depth) rest = put (codes "parent") (number (unsigned parent.0)) rest
 
 -- a record, in a block of this session
 abbrev pub record_data : Shape → ProgramTree → ℕ → CommitRecord → Data

@@ -1,5 +1,5 @@
 -- What playing a log's entries over a store gives.
-use Rattle.std.specs.Prelude.{◌≡◌, ◌≢◌, ℕ, ◌++◌, ◌∷◌, Bool, true, false, ◌==◌, ◌&&◌, List, map, slice_get, Option, Some, None, is_some}
+use Rattle.std.specs.Prelude.{◌≡◌, ◌≢◌, ℕ, ◌++◌, ◌∷◌, Bool, true, false, ◌==◌, ◌&&◌, not, List, length, map, slice_get, Option, Some, None, is_some}
 use Rattle.base_types.specs.declared.calls.GrainId.{GrainId}
 use Rattle.base_types.specs.declared.calls.Value.{Value}
 use Rattle.base_types.specs.declared.calls.Outcome.{Outcome}
@@ -11,9 +11,9 @@ use Rattle.host_trait.specs.World.{Image}
 use Rattle.field_codec.specs.declared.formats.Format.TheVariants.{Two}
 use Rattle.commit_log.specs.declared.records.CommitRecord.{CommitRecord}
 use Rattle.commit_log.specs.declared.records.Written.{Written}
-use Rattle.core_model.specs.Equality.{same_state, same_outcome}
+use Rattle.core_model.specs.Equality.{same_list, same_state, same_outcome}
 use Rattle.script_tree.specs.Programs.{ProgramTree}
-use Rattle.script_meaning.specs.Play.{found_in, initial_of}
+use Rattle.script_meaning.specs.Play.{Played, found_in, initial_of}
 use Rattle.log_reading.specs.Versions.{version_named, state_of}
 use Rattle.promise_spec.specs.Records.{Commit, States, written}
 use Rattle.promise_spec.specs.Entries.{LogEntry, Recorded, Standing, after_entry, after_entries}
@@ -29,6 +29,16 @@ same_write a b = same_grain a.0 b.0 && same_state a.1 b.1
 -- answers
 abbrev pub agree : Bool → Outcome → Outcome → ℕ → ℕ → Bool
 agree same gives kept asked answers = same && (same_outcome gives kept && (asked == answers))
+
+-- a record passes them whose call gives this, and which wrote these states
+abbrev pub passes : CommitRecord → Played → List (GrainId × List Value) → Bool
+passes r given kept = agree (same_list same_write given.writes kept) given.result r.result (length given.asked) (length r.answers)
+
+-- it does, or this tells how it doesn't
+abbrev pub IsJudged : CommitRecord → Played → List (GrainId × List Value) → Option Bad → Type 0
+IsJudged r given kept None = passes r given kept ≡ true
+IsJudged r given kept (Some bad) = (passes r given kept ≡ false)
+    × (bad ≡ record { unit = r.unit; kept = r.result; played = given.result; states_differ = not (same_list same_write given.writes kept) })
 
 -- the initial fields of each grain
 abbrev pub first_states : ProgramTree → States

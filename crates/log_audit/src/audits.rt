@@ -1,6 +1,5 @@
 ghost use Rattle.std.specs.Prelude.{◌≡◌, ℕ, List, IsTrue, OnOk, IfOk, IfErr, IsErrOf, is_ok};
 ghost use Rattle.host_trait.specs.Disk.{settled};
-ghost use Rattle.host_trait.specs.Files.{StaysReady};
 ghost use Rattle.host_trait.specs.Faults.{HasCalled};
 ghost use Rattle.host_trait.specs.declared.channels.FileId.TheVariants.{Manager};
 ghost use Rattle.field_codec.specs.declared.formats.Format.TheVariants.{Two};
@@ -10,13 +9,14 @@ ghost use Rattle.silo_spec.specs.OpenedDisks.{OnlyOpens};
 ghost use Rattle.silo_opening.specs.declared.faults.OpenFault.{OpenFault};
 ghost use Rattle.silo_opening.specs.Counts.{OpenFaulted};
 ghost use Rattle.silo_opening.specs.OpenedSilo.{ending_of, in_folder};
+ghost use Rattle.silo_opening.specs.CommandCalls.{HasCalledAs};
 ghost use Rattle.promise_spec.specs.Logs.{IsMagic};
 ghost use Rattle.promise_spec.specs.Openings.{opened_as};
 ghost use Rattle.promise_spec.specs.Refusals.{IsRefusedBy};
 ghost use Rattle.promise_spec.specs.Words.{Manner};
 ghost use Rattle.promise_spec.specs.Reports.{line_of};
 ghost use Rattle.promise_spec.specs.Commands.{Audits};
-ghost use Rattle.promise_spec.specs.Endings.{HasFailedAs, BadUse};
+ghost use Rattle.promise_spec.specs.Endings.{BadUse};
 ghost use Rattle.log_audit.specs.Lines.{audit_data};
 ghost use Rattle.log_audit.specs.ReportOutput.{PutsPart};
 ghost use Rattle.log_audit.specs.Endings.{report_ending, reported_as, MayEnd};
@@ -82,11 +82,11 @@ pub fn audit<H: Host>(alloc: Global, host: &mut H) -> Result<AuditReport, OpenFa
     };
     let slot = opened.slot;
     let count = opened.count;
-    let first = match InForce::first(opened.programs) {
+    let mut first = match InForce::first_of(opened) {
         Ok(first) => first,
         Err(AllocError) => return Err(OpenFault::Memory),
     };
-    match replay_log(alloc, host, slot, first) {
+    match replay_log(alloc, host, slot, &mut first) {
         Ok(first_bad) => Ok(AuditReport { count, first_bad }),
         Err(fault) => Err(not_read(fault)),
     }
@@ -111,8 +111,7 @@ fn write_audit<H: Host>(
     ensures puts { IsTrue H.tells → PutsPart (line_of (audit_data report.now.count (bad_unit report.now.first_bad))) (is_ok result) (H.world host.old)
         (H.world host.new) }
     ensures ended { MayEnd (report_ending result) }
-    ensures exact { HasFailedAs (report_ending result) (H.faults host.old) (H.faults host.new) }
-    ensures ready { StaysReady (H.is_ready host.old) (H.is_ready host.new) }
+    ensures calls { HasCalledAs (report_ending result) H.is_ready H.faults host.old host.new }
 {
     let line = audit_line(alloc, report.count, bad_unit(report))?;
     write_line(host, line.as_bytes())
@@ -127,10 +126,9 @@ pub fn print_audit<H: Host>(alloc: Global, host: &mut H) -> Result<(), ReportFau
     // What the command promises of any folder.
     ensures audits { IsTrue H.tells → (manner : Manner) (asked : List (List ℕ)) → Audits
         (reported_as manner asked (H.world host.old) (H.world host.new) (H.faults host.old) (H.faults host.new) result) }
-    // Exactly the call that the answer names has failed, over any host.
-    ensures exact { HasFailedAs (report_ending result) (H.faults host.old) (H.faults host.new) }
+    // Exactly the call that the answer names has failed, and each file that was ready is, over any host.
+    ensures calls { HasCalledAs (report_ending result) H.is_ready H.faults host.old host.new }
     ensures good { report_ending result ≡ BadUse → ⊥ }
-    ensures ready { StaysReady (H.is_ready host.old) (H.is_ready host.new) }
 {
     match audit(alloc, host) {
         Ok(report) => write_audit(alloc, host, &report),

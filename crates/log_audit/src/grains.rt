@@ -1,6 +1,6 @@
 // The grains that a log wrote.
 
-ghost use Rattle.std.specs.Prelude.{◌≡◌, ◌≤◌, ℕ, [], List, map, IsTrue, Ok, OnOk, IfOk, IfErr};
+ghost use Rattle.std.specs.Prelude.{◌≡◌, ◌≤◌, [], map, IsTrue, Ok, OnOk, IfOk, IfErr};
 ghost use Rattle.host_trait.specs.Faults.{HasCalled};
 ghost use Rattle.host_trait.specs.Runs.{OnlyAsked};
 ghost use Rattle.host_trait.specs.declared.channels.FileId.TheVariants.{Manager};
@@ -58,37 +58,37 @@ fn add_said(grains: &mut BTreeSet<GrainId>, now: &mut InForce, said: Said) -> Re
             text: _text,
             checked,
         } => {
-            *now = InForce::new(checked)?;
+            now.change_to(checked)?;
             Ok(())
         }
     }
 }
 
-/// The grains that a slot's log names, in a checkpoint that it begins with or in its records, ascending; its first program is this. It
-/// reads the log block by block, and keeps them, the checkpoint's places and one program.
+/// The grains that a slot's log names, in a checkpoint that it begins with or in its records, ascending; `now` is its first program, and
+/// then each that comes into force. It reads the log block by block, and keeps them, one block and one program.
 pub(crate) fn read_grains<H: Host>(
     alloc: Global,
     host: &mut H,
     slot: u8,
-    first: InForce,
+    now: &mut InForce,
 ) -> Result<BTreeSet<GrainId>, FolderFault>
     requires slot { slot ≤ 1 }
-    requires shape { HasShape first }
-    ensures found { IfOk result (λ grains. IsTrue H.tells → (p : Program) → p.types ≡ types_in_force first
+    requires shape { HasShape now.old }
+    ensures found { IfOk result (λ grains. IsTrue H.tells → (p : Program) → p.types ≡ types_in_force now.old
         → (log : ALog) → log_in_file Two p ((H.world host.old).disk (Manager slot)).seen ≡ Ok log
         → grains.keys ≡ grains_added [] (grains_of_log log)) }
-    ensures unread { IfErr result (λ e. IsTrue H.tells → (p : Program) → p.types ≡ types_in_force first
+    ensures unread { IfErr result (λ e. IsTrue H.tells → (p : Program) → p.types ≡ types_in_force now.old
         → (log : ALog) → log_in_file Two p ((H.world host.old).disk (Manager slot)).seen ≡ Ok log
         → IsLogFault slot p ((H.world host.old).disk (Manager slot)).seen e) }
     ensures asked { IsTrue H.tells → OnlyAsked (H.world host.old) (H.world host.new) }
     ensures calls { HasCalled ReadFaulted result H.is_ready H.faults host.old host.new }
 {
-    let base = read_base(alloc, host, slot, &first.shape, Format::Two)?;
+    let base = read_base(alloc, host, slot, &now.shape, Format::Two)?;
     let mut grains = BTreeSet::new(alloc);
     add_written(&mut grains, base.saved.as_slice())?;
-    let mut now = first;
     let mut last = base.session;
     let mut gate_at = base.gate_at;
+    drop(base);
     while let Some((session, said, behind)) = next_entry(
         alloc,
         host,
@@ -99,7 +99,7 @@ pub(crate) fn read_grains<H: Host>(
         Format::Two,
         gate_at,
     )? {
-        add_said(&mut grains, &mut now, said)?;
+        add_said(&mut grains, now, said)?;
         last = session;
         gate_at = behind;
     }

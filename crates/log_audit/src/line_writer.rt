@@ -1,8 +1,7 @@
 // How a line is written.
 
 ghost use Rattle.std.specs.Prelude.{IsTrue, is_ok};
-ghost use Rattle.host_trait.specs.Files.{StaysReady};
-ghost use Rattle.promise_spec.specs.Endings.{HasFailedAs};
+ghost use Rattle.silo_opening.specs.CommandCalls.{HasCalledAs};
 ghost use Rattle.log_audit.specs.Endings.{report_ending, MayEnd};
 ghost use Rattle.log_audit.specs.ReportOutput.{PutsPart};
 
@@ -13,8 +12,7 @@ use host_trait::{Failed, Host};
 pub(crate) fn write_line<H: Host>(host: &mut H, line: &[u8]) -> Result<(), ReportFault>
     ensures puts { IsTrue H.tells → PutsPart line.now (is_ok result) (H.world host.old) (H.world host.new) }
     ensures ended { MayEnd (report_ending result) }
-    ensures exact { HasFailedAs (report_ending result) (H.faults host.old) (H.faults host.new) }
-    ensures ready { StaysReady (H.is_ready host.old) (H.is_ready host.new) }
+    ensures calls { HasCalledAs (report_ending result) H.is_ready H.faults host.old host.new }
 {
     match host.emit(line) {
         Ok(()) => Ok(()),

@@ -1,21 +1,21 @@
 // The lines of the reports, each with its line feed.
 
-ghost use Rattle.std.specs.Prelude.{◌≡◌, false, codes, map, IfOk, string_bytes};
+ghost use Rattle.std.specs.Prelude.{◌≡◌, false, codes, map, OnOk, IfOk, string_bytes};
 ghost use Rattle.script_tree.specs.Programs.{type_tree};
 ghost use Rattle.script_check.specs.AcceptedPrograms.{IsAcceptedProgram};
-ghost use Rattle.request_wire.specs.Reply.{counted};
-ghost use Rattle.serde_json.specs.Data.{string, object, member, no_members};
-ghost use Rattle.serde_json.specs.View.{view};
+ghost use Rattle.request_wire.specs.Reply.{value_data};
+ghost use Rattle.serde_json.specs.Data.{unsigned, number, string, object, member, no_members, put};
+ghost use Rattle.serde_json.specs.View.{view, members_view};
 ghost use Rattle.serde_json.specs.Written.{has_float};
 ghost use Rattle.promise_spec.specs.Reports.{line_of, origin_count, unit_counts, ended_as};
-ghost use Rattle.log_audit.specs.Lines.{grain_data, count_data, record_data, audit_data, upgrade_data};
+ghost use Rattle.log_audit.specs.Lines.{grain_data, count_data, origin_put, record_data, audit_data, upgrade_data};
 
 use crate::parts::{args_json, call_text, fields_json, fields_of_kind, value_json};
 use base_types::{GrainId, Origin, Outcome, Shape, Value};
 use commit_log::CommitRecord;
 use request_wire::grain_text;
 use script_tree::TypeDecl;
-use serde_json::{Value as Json, json};
+use serde_json::{Map, Value as Json, json};
 use std::alloc::{AllocError, Global};
 
 // A value as compact JSON, and a line feed.
@@ -63,59 +63,91 @@ pub(crate) fn count_line(alloc: Global, count: u64) -> Result<String, AllocError
     line_text(alloc, &value)
 }
 
-// A unit that ended with a value.
-fn reply_json(
+// Puts a count under its name.
+fn put_count(
+    map: &mut Map<String, Json>,
     alloc: Global,
-    args: Json,
-    call: &str,
-    origin: Origin,
-    reply: Json,
-    session: u64,
-    unit: u64,
-) -> Result<Json, AllocError>
-    ensures { IfOk result (λ v. view v ≡ object (member (codes "args") (view args) (member (codes "call") (string call.now)
-        (origin_count origin (member (codes "reply") (view reply) (unit_counts session unit)))))) }
+    name: &str,
+    count: u64,
+) -> Result<(), AllocError>
+    ensures { OnOk result (members_view map.new.entries ≡ put name.now (number (unsigned count)) (members_view map.old.entries)) }
+{
+    serde_json::put(map, alloc, name, Json::from(count))
+}
+
+// Puts the count of an origin under its name.
+fn put_origin(map: &mut Map<String, Json>, alloc: Global, origin: Origin) -> Result<(), AllocError>
+    ensures { OnOk result (members_view map.new.entries ≡ origin_put origin (members_view map.old.entries)) }
 {
     match origin {
-        Origin::Line(n) => {
-            json!(in alloc; {"args": args, "call": call, "n": n, "reply": reply, "session": session, "unit": unit})
-        }
+        Origin::Line(n) => put_count(map, alloc, "n", n as u64),
         Origin::Child {
             parent,
             index: _index,
             depth: _depth,
-        } => {
-            let parent = parent.0;
-            json!(in alloc; {"args": args, "call": call, "parent": parent, "reply": reply, "session": session, "unit": unit})
-        }
+        } => put_count(map, alloc, "parent", parent.0),
     }
 }
 
-// A unit that ended with a fault.
-fn fault_json(
+// The members that each unit has: the session of its block, and its number.
+fn unit_members(alloc: Global, session: u64, unit: u64) -> Result<Map<String, Json>, AllocError>
+    ensures { IfOk result (λ map. members_view map.entries ≡ unit_counts session unit) }
+{
+    let mut map = Map::new(alloc);
+    put_count(&mut map, alloc, "unit", unit)?;
+    put_count(&mut map, alloc, "session", session)?;
+    Ok(map)
+}
+
+// The members of a unit that ended with a value: they have it and the origin too.
+fn reply_members(
     alloc: Global,
-    args: Json,
-    call: &str,
-    fault: &str,
     origin: Origin,
     session: u64,
     unit: u64,
-) -> Result<Json, AllocError>
-    ensures { IfOk result (λ v. view v ≡ object (member (codes "args") (view args) (member (codes "call") (string call.now)
-        (member (codes "fault") (string fault.now) (origin_count origin (unit_counts session unit)))))) }
+    value: &Value,
+) -> Result<Map<String, Json>, AllocError>
+    ensures { IfOk result (λ map. members_view map.entries
+        ≡ origin_count origin (member (codes "reply") (value_data value.now) (unit_counts session unit))) }
 {
-    match origin {
-        Origin::Line(n) => {
-            json!(in alloc; {"args": args, "call": call, "fault": fault, "n": n, "session": session, "unit": unit})
-        }
-        Origin::Child {
-            parent,
-            index: _index,
-            depth: _depth,
-        } => {
-            let parent = parent.0;
-            json!(in alloc; {"args": args, "call": call, "fault": fault, "parent": parent, "session": session, "unit": unit})
-        }
+    let mut map = unit_members(alloc, session, unit)?;
+    let reply = value_json(alloc, value)?;
+    serde_json::put(&mut map, alloc, "reply", reply)?;
+    put_origin(&mut map, alloc, origin)?;
+    Ok(map)
+}
+
+// The members of a unit that ended with a fault: they have it and the origin too.
+fn fault_members(
+    alloc: Global,
+    origin: Origin,
+    session: u64,
+    unit: u64,
+    fault: &str,
+) -> Result<Map<String, Json>, AllocError>
+    ensures { IfOk result (λ map. members_view map.entries
+        ≡ member (codes "fault") (string fault.now) (origin_count origin (unit_counts session unit))) }
+{
+    let mut map = unit_members(alloc, session, unit)?;
+    put_origin(&mut map, alloc, origin)?;
+    let fault = Json::try_from_str(alloc, fault)?;
+    serde_json::put(&mut map, alloc, "fault", fault)?;
+    Ok(map)
+}
+
+// The members that tell how a record's unit ended.
+fn ended_members(
+    alloc: Global,
+    session: u64,
+    entry: &CommitRecord,
+) -> Result<Map<String, Json>, AllocError>
+    ensures { IfOk result (λ map. members_view map.entries ≡ ended_as entry.now.origin session entry.now.unit.0 entry.now.result) }
+{
+    let unit = entry.unit.0;
+    match &entry.result {
+        Outcome::Value(value) => reply_members(alloc, entry.origin, session, unit, value),
+        Outcome::Fault(text) => { fault_members(alloc, entry.origin, session, unit, text.as_str()) }
+        Outcome::Aborted => Ok(Map::new(alloc)),
     }
 }
 
@@ -129,18 +161,11 @@ fn record_json(
     ensures { IfOk result (λ v. view v ≡ object (member (codes "args") (view args) (member (codes "call") (string call.now)
         (ended_as entry.now.origin session entry.now.unit.0 entry.now.result)))) }
 {
-    let unit = entry.unit.0;
-    match &entry.result {
-        Outcome::Value(value) => {
-            let reply = value_json(alloc, value)?;
-            reply_json(alloc, args, call, entry.origin, reply, session, unit)
-        }
-        Outcome::Fault(text) => {
-            let fault = text.as_str();
-            fault_json(alloc, args, call, fault, entry.origin, session, unit)
-        }
-        Outcome::Aborted => json!(in alloc; {"args": args, "call": call}),
-    }
+    let mut map = ended_members(alloc, session, entry)?;
+    let call = Json::try_from_str(alloc, call)?;
+    serde_json::put(&mut map, alloc, "call", call)?;
+    serde_json::put(&mut map, alloc, "args", args)?;
+    Ok(Json::Object(map))
 }
 
 /// A record of the log, in a block of this session.
@@ -177,10 +202,7 @@ pub(crate) fn upgrade_line(alloc: Global, session: u64, length: u64) -> Result<S
 fn audit_json(alloc: Global, count: u64, first_bad: Option<u64>) -> Result<Json, AllocError>
     ensures { IfOk result (λ v. view v ≡ audit_data count first_bad) }
 {
-    match first_bad {
-        Some(unit) => json!(in alloc; {"count": count, "first_bad": unit}),
-        None => json!(in alloc; {"count": count, "first_bad": null}),
-    }
+    json!(in alloc; {"count": count, "first_bad": first_bad})
 }
 
 /// What an audit found: the number of entries, and the first unit whose record doesn't replay.

@@ -1,5 +1,4 @@
 ghost use Rattle.std.specs.Prelude.{◌≡◌, ◌+◌, ◌^◌, ◌<◌, ◌≤◌, ℕ, List, IsTrue, Ok, IfOk, IfErr, IfSome, OnOk, is_ok, length, zip};
-ghost use Rattle.host_trait.specs.Files.{StaysReady};
 ghost use Rattle.host_trait.specs.Runs.{OnlyAsked};
 ghost use Rattle.host_trait.specs.declared.channels.FileId.TheVariants.{Manager};
 ghost use Rattle.field_codec.specs.declared.formats.Format.TheVariants.{Two};
@@ -10,11 +9,12 @@ ghost use Rattle.log_reading.specs.Steps.{next_in, found_as, seen_in};
 ghost use Rattle.script_tree.specs.Programs.{program_tree};
 ghost use Rattle.program_file.specs.Succession.{ArePrograms};
 ghost use Rattle.silo_opening.specs.OpenedSilo.{IsOpenedFrom, programs_of};
+ghost use Rattle.silo_opening.specs.CommandCalls.{HasCalledAs};
 ghost use Rattle.promise_spec.specs.Programs.{Program};
 ghost use Rattle.promise_spec.specs.Words.{Manner};
 ghost use Rattle.promise_spec.specs.Reports.{line_of, history_text};
 ghost use Rattle.promise_spec.specs.Commands.{Reports};
-ghost use Rattle.promise_spec.specs.Endings.{HasFailedAs, BadUse};
+ghost use Rattle.promise_spec.specs.Endings.{BadUse};
 ghost use Rattle.log_audit.specs.Lines.{record_lines, upgrade_data, said_lines, entry_lines};
 ghost use Rattle.log_audit.specs.InForce.{types_in_force, HasShape, types_said};
 ghost use Rattle.log_audit.specs.ReportOutput.{PutsPart};
@@ -53,8 +53,7 @@ fn next_said<H: Host>(
     ensures unread { IfErr result (λ e. IsTrue H.tells
         → IsBlockFault (types_in_force now.now) session gate_at ((H.world host.old).disk (Manager slot)).seen e) }
     ensures asked { IsTrue H.tells → OnlyAsked (H.world host.old) (H.world host.new) }
-    ensures exact { HasFailedAs (report_ending result) (H.faults host.old) (H.faults host.new) }
-    ensures ready { StaysReady (H.is_ready host.old) (H.is_ready host.new) }
+    ensures calls { HasCalledAs (report_ending result) H.is_ready H.faults host.old host.new }
 {
     match next_entry(
         alloc,
@@ -83,8 +82,7 @@ fn write_records<H: Host>(
     ensures puts { IsTrue H.tells → PutsPart (record_lines shape.now (program_tree checked.now) session records.now)
         (is_ok result) (H.world host.old) (H.world host.new) }
     ensures ended { MayEnd (report_ending result) }
-    ensures exact { HasFailedAs (report_ending result) (H.faults host.old) (H.faults host.new) }
-    ensures ready { StaysReady (H.is_ready host.old) (H.is_ready host.new) }
+    ensures calls { HasCalledAs (report_ending result) H.is_ready H.faults host.old host.new }
 {
     let types = checked.program().types.as_slice();
     for entry in records {
@@ -103,8 +101,7 @@ fn write_upgrade<H: Host>(
 ) -> Result<(), ReportFault>
     ensures puts { IsTrue H.tells → PutsPart (line_of (upgrade_data session length)) (is_ok result) (H.world host.old) (H.world host.new) }
     ensures ended { MayEnd (report_ending result) }
-    ensures exact { HasFailedAs (report_ending result) (H.faults host.old) (H.faults host.new) }
-    ensures ready { StaysReady (H.is_ready host.old) (H.is_ready host.new) }
+    ensures calls { HasCalledAs (report_ending result) H.is_ready H.faults host.old host.new }
 {
     let line = upgrade_line(alloc, session, length)?;
     write_line(host, line.as_bytes())
@@ -124,8 +121,7 @@ fn write_said<H: Host>(
     ensures behind { OnOk result (types_in_force now.new ≡ types_said now.old said) }
     ensures shaped { OnOk result (HasShape now.new) }
     ensures ended { MayEnd (report_ending result) }
-    ensures exact { HasFailedAs (report_ending result) (H.faults host.old) (H.faults host.new) }
-    ensures ready { StaysReady (H.is_ready host.old) (H.is_ready host.new) }
+    ensures calls { HasCalledAs (report_ending result) H.is_ready H.faults host.old host.new }
 {
     match said {
         Said::Records(records) => {
@@ -140,43 +136,41 @@ fn write_said<H: Host>(
             Ok(())
         }
         Said::Upgrade { text, checked } => {
-            let next = InForce::new(checked)?;
+            now.change_to(checked)?;
             write_upgrade(alloc, host, session, text.len() as u64)?;
-            *now = next;
             Ok(())
         }
     }
 }
 
-// Writes a line for each entry of a slot's log, behind the checkpoint where it begins with one, the first under this program. It reads
-// the log block by block, and keeps one block and one program at a time.
+// Writes a line for each entry of a slot's log, behind the checkpoint where it begins with one; `now` is the log's first program, and then
+// each that comes into force. It reads the log block by block, and keeps one block and one program at a time.
 fn write_log<H: Host>(
     alloc: Global,
     host: &mut H,
     slot: u8,
-    first: InForce,
+    now: &mut InForce,
 ) -> Result<(), ReportFault>
     requires slot { slot ≤ 1 }
-    requires shape { HasShape first }
-    ensures puts { IsTrue H.tells → (p : Program) → p.types ≡ types_in_force first
+    requires shape { HasShape now.old }
+    ensures puts { IsTrue H.tells → (p : Program) → p.types ≡ types_in_force now.old
         → (log : ALog) → log_in_file Two p ((H.world host.old).disk (Manager slot)).seen ≡ Ok log
         → PutsPart (entry_lines p (zip (sessions_read Two p ((H.world host.old).disk (Manager slot)).seen) log.entries)) (is_ok result)
         (H.world host.old) (H.world host.new) }
-    ensures ended { IsTrue H.tells → (p : Program) → p.types ≡ types_in_force first
+    ensures ended { IsTrue H.tells → (p : Program) → p.types ≡ types_in_force now.old
         → (log : ALog) → log_in_file Two p ((H.world host.old).disk (Manager slot)).seen ≡ Ok log
         → MayEnd (report_ending result) }
-    ensures exact { HasFailedAs (report_ending result) (H.faults host.old) (H.faults host.new) }
-    ensures ready { StaysReady (H.is_ready host.old) (H.is_ready host.new) }
+    ensures calls { HasCalledAs (report_ending result) H.is_ready H.faults host.old host.new }
 {
-    let base = match read_base(alloc, host, slot, &first.shape, Format::Two) {
+    let base = match read_base(alloc, host, slot, &now.shape, Format::Two) {
         Ok(base) => base,
         Err(fault) => return Err(unread(fault)),
     };
-    let mut now = first;
     let mut last = base.session;
     let mut gate_at = base.gate_at;
-    while let Some((session, said, behind)) = next_said(alloc, host, slot, &now, last, gate_at)? {
-        write_said(alloc, host, &mut now, session, said)?;
+    drop(base);
+    while let Some((session, said, behind)) = next_said(alloc, host, slot, now, last, gate_at)? {
+        write_said(alloc, host, now, session, said)?;
         last = session;
         gate_at = behind;
     }
@@ -191,12 +185,11 @@ fn write_history<H: Host>(alloc: Global, host: &mut H, opened: Opened) -> Result
         → PutsPart (history_text (sessions_read Two o.first ((H.world host.old).disk (Manager opened.slot)).seen) o.log) (is_ok result)
         (H.world host.old) (H.world host.new) }
     ensures ended { IsTrue H.tells → IsOpenedFrom (seen_in (H.world host.old).disk) opened → MayEnd (report_ending result) }
-    ensures exact { HasFailedAs (report_ending result) (H.faults host.old) (H.faults host.new) }
-    ensures ready { StaysReady (H.is_ready host.old) (H.is_ready host.new) }
+    ensures calls { HasCalledAs (report_ending result) H.is_ready H.faults host.old host.new }
 {
     let slot = opened.slot;
-    let first = InForce::first(opened.programs)?;
-    write_log(alloc, host, slot, first)
+    let mut first = InForce::first_of(opened)?;
+    write_log(alloc, host, slot, &mut first)
 }
 
 /// Writes a line for each entry of the log, in its order, with the session of its block: of a record the call, its origin, and how it
@@ -211,10 +204,9 @@ pub fn history<H: Host>(alloc: Global, host: &mut H) -> Result<(), ReportFault>
     // What the command promises of any folder.
     ensures reports { IsTrue H.tells → (manner : Manner) (asked : List (List ℕ)) → Reports
         (reported_as manner asked (H.world host.old) (H.world host.new) (H.faults host.old) (H.faults host.new) result) }
-    // Exactly the call that the answer names has failed, over any host.
-    ensures exact { HasFailedAs (report_ending result) (H.faults host.old) (H.faults host.new) }
+    // Exactly the call that the answer names has failed, and each file that was ready is, over any host.
+    ensures calls { HasCalledAs (report_ending result) H.is_ready H.faults host.old host.new }
     ensures good { report_ending result ≡ BadUse → ⊥ }
-    ensures ready { StaysReady (H.is_ready host.old) (H.is_ready host.new) }
 {
     match open_silo(alloc, host) {
         Ok(opened) => write_history(alloc, host, opened),

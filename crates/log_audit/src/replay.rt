@@ -13,6 +13,7 @@ ghost use Rattle.base_types.specs.declared.calls.GrainId.{GrainId as AGrain};
 ghost use Rattle.script_tree.specs.Programs.{ProgramTree};
 ghost use Rattle.script_check.specs.Shapes.{type_shapes};
 ghost use Rattle.script_meaning.specs.Play.{found_in};
+ghost use Rattle.script_player.specs.PlayState.{played_of};
 ghost use Rattle.promise_spec.specs.Programs.{Program};
 ghost use Rattle.promise_spec.specs.Records.{written, put_state};
 ghost use Rattle.promise_spec.specs.Entries.{Standing, is_among};
@@ -20,7 +21,7 @@ ghost use Rattle.promise_spec.specs.Openings.{commit_of, entries_logged, log_of}
 ghost use Rattle.log_audit.specs.InForce.{types_in_force, HasShape, types_said, said_entries};
 ghost use Rattle.log_audit.specs.CarriedStores.{StoreFits, AreOfProgram};
 ghost use Rattle.log_audit.specs.RereadFaults.{IsWriteFault, IsRecordFault, IsEntryFault, IsRereadFault};
-ghost use Rattle.log_audit.specs.Replays.{same_write, agree, first_states, states_saved_at, entries_of_records, IsStoreOf, ReplaysTo, AllReplayTo, IsFirstFailure};
+ghost use Rattle.log_audit.specs.Replays.{same_write, agree, IsJudged, first_states, states_saved_at, entries_of_records, IsStoreOf, ReplaysTo, AllReplayTo, IsFirstFailure};
 
 use crate::carrying::carry_store;
 use crate::in_force::InForce;
@@ -32,6 +33,7 @@ use host_trait::Host;
 use log_reading::{FolderFault, Said, named_version, next_entry, read_base};
 use script_player::{Played, play};
 use std::alloc::{AllocError, Global};
+use std::mem;
 
 /// A record that doesn't replay: its unit, the result that the log has and the one that its call gives over the store, and
 /// whether its call writes other grains or states. Where neither differs, it has more or fewer answers than its call asks for.
@@ -102,6 +104,27 @@ fn agrees(entry: &CommitRecord, played: &Played, same: bool) -> bool
     same && played.result.is_same(&entry.result) && played.asked.len() == entry.answers.len()
 }
 
+// How a record doesn't replay, whose call gives what was played and which wrote these states; none where it does.
+fn failure(
+    entry: &CommitRecord,
+    played: Played,
+    kept: &[(GrainId, State)],
+) -> Result<Option<Bad>, AllocError>
+    ensures { IfOk result (IsJudged entry.now (played_of played) kept.now) }
+{
+    let same = are_same_writes(played.writes.as_slice(), kept);
+    if agrees(entry, &played, same) {
+        return Ok(None);
+    }
+    let logged = entry.result.copy()?;
+    Ok(Some(Bad {
+        unit: entry.unit,
+        kept: logged,
+        played: played.result,
+        states_differ: !same,
+    }))
+}
+
 // Gives each grain its state.
 fn keep(store: &mut Store, writes: Vec<(GrainId, State)>) -> Result<(), AllocError>
     ensures held { OnOk result ((grain : AGrain) → is_some (state_in store.new grain) ≡ (is_among writes.items grain || is_some (state_in store.old grain))) }
@@ -137,18 +160,11 @@ fn replay<H: Host>(
     let depth = entry.origin.depth();
     let answers = entry.answers.as_slice();
     let played = play(alloc, &now.checked, &entry.call, depth, store, answers)?;
-    let same = are_same_writes(played.writes.as_slice(), kept.as_slice());
-    if agrees(entry, &played, same) {
-        keep(store, kept)?;
-        return Ok(None);
+    if let Some(bad) = failure(entry, played, kept.as_slice())? {
+        return Ok(Some(bad));
     }
-    let logged = entry.result.copy()?;
-    Ok(Some(Bad {
-        unit: entry.unit,
-        kept: logged,
-        played: played.result,
-        states_differ: !same,
-    }))
+    keep(store, kept)?;
+    Ok(None)
 }
 
 // Plays records over the store, which has what stands before them, up to the first that doesn't replay.
@@ -212,9 +228,8 @@ fn replay_said<H: Host>(
             checked,
         } => {
             let carried = carry_store(alloc, &now.checked, &checked, store)?;
-            let next = InForce::new(checked)?;
-            *store = carried;
-            *now = next;
+            drop(mem::replace(store, carried));
+            now.change_to(checked)?;
             Ok(None)
         }
     }
@@ -252,30 +267,31 @@ fn saved_store<H: Host>(
 }
 
 /// Plays the entries of a slot's log, each over the store that those before it left, the first over a checkpoint's states
-/// where the log begins with one and under this program, up to the first record that doesn't replay. It reads the log block by block, and
-/// keeps the store, the checkpoint's places, one block and one program; a second store while it carries the first to a program.
+/// where the log begins with one, up to the first record that doesn't replay; `now` is the log's first program, and then each that comes
+/// into force. It reads the log block by block, and keeps the store, one block and one program; a second store while it carries the first
+/// to a program.
 pub(crate) fn replay_log<H: Host>(
     alloc: Global,
     host: &mut H,
     slot: u8,
-    first: InForce,
+    now: &mut InForce,
 ) -> Result<Option<Bad>, FolderFault>
     requires slot { slot ≤ 1 }
-    requires shape { HasShape first }
-    ensures replays { IfOk result (λ found. IsTrue H.tells → (p : Program) → p.types ≡ types_in_force first
+    requires shape { HasShape now.old }
+    ensures replays { IfOk result (λ found. IsTrue H.tells → (p : Program) → p.types ≡ types_in_force now.old
         → (log : ALog) → log_in_file Two p ((H.world host.old).disk (Manager slot)).seen ≡ Ok log
         → let all = log_of Two slot p (seen_in (H.world host.old).disk) log in IsFirstFailure all.base all.entries found) }
-    ensures unread { IfErr result (λ e. IsTrue H.tells → (p : Program) → p.types ≡ types_in_force first
+    ensures unread { IfErr result (λ e. IsTrue H.tells → (p : Program) → p.types ≡ types_in_force now.old
         → (log : ALog) → log_in_file Two p ((H.world host.old).disk (Manager slot)).seen ≡ Ok log
         → IsRereadFault slot p (seen_in (H.world host.old).disk) log e) }
     ensures asked { IsTrue H.tells → OnlyAsked (H.world host.old) (H.world host.new) }
     ensures calls { HasCalled ReadFaulted result H.is_ready H.faults host.old host.new }
 {
-    let base = read_base(alloc, host, slot, &first.shape, Format::Two)?;
-    let mut store = saved_store(alloc, host, slot, &first.shape, base.saved.as_slice())?;
-    let mut now = first;
+    let base = read_base(alloc, host, slot, &now.shape, Format::Two)?;
+    let mut store = saved_store(alloc, host, slot, &now.shape, base.saved.as_slice())?;
     let mut last = base.session;
     let mut gate_at = base.gate_at;
+    drop(base);
     while let Some((session, said, behind)) = next_entry(
         alloc,
         host,
@@ -286,7 +302,7 @@ pub(crate) fn replay_log<H: Host>(
         Format::Two,
         gate_at,
     )? {
-        let found = replay_said(alloc, host, slot, &mut now, &mut store, said)?;
+        let found = replay_said(alloc, host, slot, now, &mut store, said)?;
         if found.is_some() {
             return Ok(found);
         }

@@ -3,7 +3,7 @@ use Rattle.std.specs.Prelude.{ℕ}
 use Rattle.host_trait.specs.declared.channels.Channel.{Channel}
 use Rattle.host_trait.specs.World.{World}
 use Rattle.core_model.specs.LegalRuns.{Run}
-pub use Rattle.batch_disk.specs.Writers.{IsSafe}
+pub use Rattle.batch_disk.specs.Writers.{IsSafe, StaysSafe}
 use Rattle.settle_loop.specs.declared.settler.Settler.{Settler}
 
 -- what stands beside the core: the settler, the host's counts of faults, and the host's world

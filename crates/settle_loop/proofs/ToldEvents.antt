@@ -1,5 +1,6 @@
 -- How an event is told, and counted.
 use Rattle.std.proofs.Common.{◌≡◌, ◌⊎◌, Bool, true, false, refl, sym, ap, subst, ◌∙◌}
+use Rattle.std.proofs.lemmas.Bool.{and_right}
 use Rattle.std.specs.Prelude.{Result, Ok, Err, IsErr, ◌&&◌, ◌||◌, if◌then◌else◌}
 use Rattle.core_model.specs.declared.events.CoreEvent.{CoreEvent}
 use Rattle.core_model.specs.declared.events.CoreReply.{CoreReply}
@@ -23,10 +24,32 @@ is_counted true false s = refl
 is_counted false true s = refl
 is_counted false false s = refl
 
+-- or not at all
+or_none : (b : Bool) → b ≡ (b || false)
+or_none true = refl
+or_none false = refl
+
+isnt_counted : (writes doubts : Bool) (s : Settler) → s ≡ counting_if writes doubts false s
+isnt_counted true true s = ap (λ (b : Bool). record s { doubted = b }) (or_none s.doubted)
+isnt_counted true false s = ap (λ (b : Bool). record s { doubted = b }) (or_none s.doubted)
+isnt_counted false true s = ap (λ (b : Bool). record s { doubted = b }) (or_none s.doubted)
+isnt_counted false false s = ap (λ (b : Bool). record s { doubted = b }) (or_none s.doubted)
+
 module _ (may_come : CoreEvent → Bool) (e : CoreEvent) (writes doubts : Bool) (before after : Settler) (s mid : Sight) (r : CoreReply) (told : Tells may_come s e r mid) where
+  -- it didn't apply
+  pub told_in_vain : has_applied r ≡ false → after ≡ before → IsTold may_come e writes doubts before after s mid r mid × LooksOn may_come (after.doubted && has_applied r) mid mid
+  told_in_vain vain is = (
+    record { told = told; counts = is ∙ (isnt_counted writes doubts before ∙ ap (λ (b : Bool). counting_if writes doubts b before) (sym vain)) },
+    subst (λ (b : Bool). LooksOn may_come b mid mid) (sym (and_right after.doubted (has_applied r) vain)) refl,
+  )
+
   module _ (applied : has_applied r ≡ true) (is : after ≡ record before { written = (if writes then counted_up before.written else before.written); doubted = (before.doubted || doubts) }) where
     counts : after ≡ counting writes doubts r before
     counts = is ∙ (is_counted writes doubts before ∙ ap (λ (b : Bool). counting_if writes doubts b before) (sym applied))
+
+    -- no doubt of the settler stands
+    pub told_calmly : after.doubted ≡ false → IsTold may_come e writes doubts before after s mid r mid × LooksOn may_come (after.doubted && has_applied r) mid mid
+    told_calmly calm = (record { told = told; counts = counts }, subst (λ (b : Bool). LooksOn may_come (b && has_applied r) mid mid) (sym calm) refl)
 
     module _ (doubtful : after.doubted ≡ true) (t : Sight) (looked : Looks may_come mid t) where
       pub told_doubt : IsToldInDoubt may_come e writes doubts before after s t r mid

@@ -5,7 +5,7 @@ ghost use Rattle.host_trait.specs.Runs.{OnlyAsked};
 ghost use Rattle.core_model.specs.CoreState.{CoreState};
 ghost use Rattle.core_model.specs.Settler.{Step, Loads, settler_step};
 ghost use Rattle.core_model.specs.declared.questions.SettlerWork.TheVariants as shown;
-ghost use Rattle.batch_disk.specs.Writers.{IsInBounds, IsSafe};
+ghost use Rattle.batch_disk.specs.Writers.{IsInBounds, IsSafe, StaysSafe};
 ghost use Rattle.settle_loop.specs.ShownWork.{ShowsWork};
 ghost use Rattle.settler_rules.specs.Entries.{IsSaidInRange};
 ghost use Rattle.settle_loop.specs.HostSteps.{initial_in, version_loaded};
@@ -39,6 +39,11 @@ pub(crate) enum Made {
 // A unit's number is what its type can hold.
 fn read_unit(unit: UnitNo)
     ensures { unit.0 < 2 ^ 64 }
+{}
+
+// So is a line's.
+fn read_line(line: u32)
+    ensures { line < 2 ^ 32 }
 {}
 
 // So is a grain's key.
@@ -131,8 +136,7 @@ impl Settler {
         requires safe { IsSafe H.tells self.old.writer (H.world host.old) }
         ensures made { (shape : AShape) (w : CoreState) → ShowsWork w (settler_step w) (shown.Vote batch grain versions)
             → MadeAs H.tells H.world H.faults shape w (settler_step w) self.old self.new host.old host.new result }
-        ensures safe { IsSafe H.tells self.new.writer (H.world host.new) }
-        ensures ready { StaysReady (H.is_ready host.old) (H.is_ready host.new) }
+        ensures safe { StaysSafe H.tells H.is_ready H.world self.new.writer host.old host.new }
     {
         let kept = self.writer.write_work(host, batch, grain, &versions)?;
         Ok(Made::Event {
@@ -157,8 +161,7 @@ impl Settler {
         requires safe { IsSafe H.tells self.old.writer (H.world host.old) }
         ensures made { (shape : AShape) (w : CoreState) → ShowsWork w (settler_step w) (shown.Seal batch effects)
             → MadeAs H.tells H.world H.faults shape w (settler_step w) self.old self.new host.old host.new result }
-        ensures safe { IsSafe H.tells self.new.writer (H.world host.new) }
-        ensures ready { StaysReady (H.is_ready host.old) (H.is_ready host.new) }
+        ensures safe { StaysSafe H.tells H.is_ready H.world self.new.writer host.old host.new }
     {
         if self.writer.in_doubt() {
             return Ok(Made::Event {
@@ -191,12 +194,13 @@ impl Settler {
     }
 
     // The fifth case: a settled entry's line is put out, unless the settler is quiet.
-    fn write<H: Host>(&self, shape: &Shape, host: &mut H, entry: Entry) -> Result<Made, AllocError>
-        ensures made { (w : CoreState) → ShowsWork w (settler_step w) (shown.Write entry)
+    fn write<H: Host>(&self, shape: &Shape, host: &mut H, entry: &Entry) -> Result<Made, AllocError>
+        ensures made { (w : CoreState) → ShowsWork w (settler_step w) (shown.Write entry.now)
             → MadeAs H.tells H.world H.faults shape.now w (settler_step w) self.now self.now host.old host.new result }
         ensures disk { IsTrue H.tells → (H.world host.new).disk ≡ (H.world host.old).disk }
         ensures ready { StaysReady (H.is_ready host.old) (H.is_ready host.new) }
     {
+        read_line(entry.line);
         read_unit(entry.unit);
         read_said(&entry.what);
         if self.quiet {
@@ -206,7 +210,7 @@ impl Settler {
                 doubts: false,
             });
         }
-        let text = reply_text(self.alloc, &entry, shape)?;
+        let text = reply_text(self.alloc, entry, shape)?;
         match host.emit(text.as_slice()) {
             Ok(()) => Ok(Made::Event {
                 event: CoreEvent::Emitted,
@@ -258,8 +262,7 @@ impl Settler {
         requires safe { IsSafe H.tells self.old.writer (H.world host.old) }
         ensures made { (w : CoreState) → ShowsWork w (settler_step w) work
             → MadeAs H.tells H.world H.faults shape.now w (settler_step w) self.old self.new host.old host.new result }
-        ensures safe { IsSafe H.tells self.new.writer (H.world host.new) }
-        ensures ready { StaysReady (H.is_ready host.old) (H.is_ready host.new) }
+        ensures safe { StaysSafe H.tells H.is_ready H.world self.new.writer host.old host.new }
     {
         match work {
             SettlerWork::Vote {
@@ -278,7 +281,7 @@ impl Settler {
                 writes: false,
                 doubts: false,
             }),
-            SettlerWork::Write { entry } => self.write(shape, host, entry),
+            SettlerWork::Write { entry } => self.write(shape, host, &entry),
             SettlerWork::Load { grain } => self.bring_in(shape, host, grain),
             SettlerWork::Take => Ok(Made::Event {
                 event: CoreEvent::Take,

@@ -10,7 +10,7 @@ ghost use Rattle.host_trait.specs.Runs.{OnlyAsked};
 ghost use Rattle.core_model.specs.Settler.{settler_step, has_step, step_of};
 ghost use Rattle.core_access.specs.FitAccess.{StaysFit};
 ghost use Rattle.core_access.specs.Sights.{Looks};
-ghost use Rattle.batch_disk.specs.Writers.{file_end, kept_of, programs_of, IsInBounds, IsSafe};
+ghost use Rattle.batch_disk.specs.Writers.{file_end, kept_of, programs_of, IsInBounds, IsSafe, StaysSafe};
 ghost use Rattle.settle_loop.specs.ShownWork.{counted_up};
 ghost use Rattle.settle_loop.specs.SettlerStep.{state_shown, wanted_step, TurnsAs, TurnsBy};
 ghost use Rattle.settle_loop.specs.StepParts.{ToldAs};
@@ -198,8 +198,7 @@ impl Settler {
         ensures turns { TurnsAs H.tells H.world H.faults A.may_come shape.now self.old self.new (A.sight access.old) (A.sight access.new) host.old
             host.new result }
 
-        ensures safe { IsSafe H.tells self.new.writer (H.world host.new) }
-        ensures ready { StaysReady (H.is_ready host.old) (H.is_ready host.new) }
+        ensures safe { StaysSafe H.tells H.is_ready H.world self.new.writer host.old host.new }
     {
         let work = look(access)?;
         let made = match self.act(shape, host, gate, work) {

@@ -1,6 +1,6 @@
 -- A stop or a doubt that stands behind a failure.
 use Rattle.std.proofs.Common.{◌≡◌, ⊎_elim, inl, inr, ℕ, [], ◌∷◌, Bool, true, false, true≢false, Option, Some, None, refl, sym, ap, ◌∙◌, subst}
-use Rattle.std.specs.Prelude.{Result, Ok, Err, ◌&&◌, ◌||◌, not, is_some, is_none, if◌then◌else◌}
+use Rattle.std.specs.Prelude.{Result, Ok, Err, IfOk, IfErr, ◌&&◌, ◌||◌, not, is_some, is_none, if◌then◌else◌}
 use Rattle.std.proofs.lemmas.Bool.{and_parts, or_cases}
 use Rattle.base_types.specs.declared.shapes.Shape.{Shape}
 use Rattle.host_trait.specs.declared.channels.Channel.{Channel}
@@ -31,7 +31,7 @@ use Rattle.run_books.proofs.BooksCore.{moves-run, unapplied-run}
 use Rattle.run_books.proofs.BooksShared.{looks-behind}
 use Rattle.run_books.proofs.Fronts.{events_told}
 use Rattle.run_books.proofs.Reliance.{sees-look, sees-tell, sees-both}
-use Rattle.shared_settling.specs.SharedSettler.{HasToStop, KnowsTruly}
+use Rattle.shared_settling.specs.SharedSettler.{HasToStop, KnowsTruly, MayStop}
 use Rattle.shared_settling.proofs.KeptBooks.{some-of}
 use Rattle.shared_settling.proofs.StepsBeside.{run-goes}
 
@@ -45,7 +45,7 @@ barred-stop w none going = true≢false (sym possible ∙ none)
     possible = λ i. ((is_none (going.0 i) || false) && (not (going.1 i) || false)) && not (going.1 i)
 
 -- so where there was no memory for it
-pub spared_stop : (r : Run) → is_spared r Halt ≡ false → HasToStop r
+spared_stop : (r : Run) → is_spared r Halt ≡ false → HasToStop r
 spared_stop r none = record { stopped = barred-stop (ends r) (by (applies (ends r) Halt) none) }
   where
     by : (a : Bool) → (a && has_room Halt) ≡ false → a ≡ false
@@ -72,8 +72,14 @@ told-stop r = by (applies (ends r) Halt) refl
     }
     by false a = record { stopped = λ going. barred-stop (ends r) a (subst IsGoing (unapplied-run r Halt a) going) }
 
-pub put_stop : (may : CoreEvent → Bool) (s t : Sight) (r : CoreReply) → Tells may s Halt r t → HasToStop (run_seen t)
+put_stop : (may : CoreEvent → Bool) (s t : Sight) (r : CoreReply) → Tells may s Halt r t → HasToStop (run_seen t)
 put_stop may s t r l = subst HasToStop (sym (ap run_seen l.sight ∙ run-told (saw s l.rest) Halt r)) (told-stop (run_seen (saw s l.rest)))
+
+-- so one stands behind an attempt to put it, whatever that answered
+pub tried-stop : {E : Type 0} (Back : E → Type 0) (may : CoreEvent → Bool) (s t : Sight) (answer : Result CoreReply E) → IfOk answer (λ r. Tells may s Halt r t)
+    → IfErr answer (λ e. Back e × Looks may s t) → IfErr answer (λ e. is_spared (run_seen t) Halt ≡ false) → MayStop may s t × HasToStop (run_seen t)
+tried-stop Back may s t (Ok r) told refused unspared = (inr (r, told), put_stop may s t r told)
+tried-stop Back may s t (Err e) told refused unspared = (inl refused.1, spared_stop (run_seen t) unspared)
 
 -- ---- a doubt
 

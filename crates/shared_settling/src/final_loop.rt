@@ -1,5 +1,4 @@
 ghost use Rattle.std.specs.Prelude.{◌≡◌, false, IfOk};
-ghost use Rattle.host_trait.specs.Files.{StaysReady};
 ghost use Rattle.core_model.specs.LegalRuns.{ends};
 ghost use Rattle.core_model.specs.Settler.{settler_step, Rests};
 ghost use Rattle.core_access.specs.OneHolder.{own_sight};
@@ -11,7 +10,7 @@ ghost use Rattle.run_books.specs.Books.{Books};
 ghost use Rattle.run_books.specs.Records.{KeepsBooks};
 ghost use Rattle.run_books.specs.BooksSteps.{AreEven};
 ghost use Rattle.shared_settling.specs.SharedSettler.{SettlesAmong, CanSettleRest, SettledAmong};
-ghost use Rattle.run_books.specs.Stages.{stage_of, IsSafe};
+ghost use Rattle.run_books.specs.Stages.{stage_of, IsSafe, StaysSafe};
 
 use crate::steps::settle_once;
 use base_types::Shape;
@@ -57,8 +56,7 @@ pub fn settle_rest<H: Host, G: Gate>(
         (stage_of H.world H.faults (run_of core.old) settler.old host.old)
         (stage_of H.world H.faults (run_of core.new) settler.new host.new) result }
 
-    ensures safe { IsSafe H.tells settler.new.writer (H.world host.new) }
-    ensures ready { StaysReady (H.is_ready host.old) (H.is_ready host.new) }
+    ensures safe { StaysSafe H.tells H.is_ready H.world settler.new.writer host.old host.new }
 {
     for _step in 0..usize::MAX {
         if !settle_once(shape, settler, core, host, gate)? {

@@ -1,12 +1,11 @@
 ghost use Rattle.std.specs.Prelude.{◌≡◌, IfOk};
-ghost use Rattle.host_trait.specs.Files.{StaysReady};
 ghost use Rattle.core_model.specs.Settler.{settler_step, Rests};
 ghost use Rattle.core_access.specs.FitAccess.{StaysFit};
 ghost use Rattle.core_access.specs.Sights.{run_seen};
 ghost use Rattle.settle_loop.specs.SettlerStep.{state_shown};
 ghost use Rattle.run_books.specs.SharedSteps.{SeesOn};
 ghost use Rattle.shared_settling.specs.SharedSettler.{EndsAmong, HasToStop, MayStop, EndsOthers, LeavesStopped, LeavesBeside};
-ghost use Rattle.run_books.specs.Stages.{side_of, IsSafe};
+ghost use Rattle.run_books.specs.Stages.{side_of, IsSafe, StaysSafe};
 
 use crate::steps::settle_once;
 use base_types::Shape;
@@ -20,18 +19,14 @@ use worker_signals::Signals;
 
 /// Puts a stop, which the others see when they look. It takes no memory where it applies, and elsewhere a stop or a doubt stands
 /// already: so one of them stands afterwards, and no more is written.
-#[tactic(auto, using(crate::proofs::Stops::put_stop, crate::proofs::Stops::spared_stop))]
 fn stop<A: Access>(access: &mut A, signals: &Signals)
     requires fit { A.is_fit access.old }
     ensures kept { StaysFit (A.is_fit access.new) (A.aside access.old) (A.aside access.new) }
     ensures stops { MayStop A.may_come (A.sight access.old) (A.sight access.new) }
     ensures stopped { HasToStop (run_seen (A.sight access.new)) }
 {
-    match access.put(CoreEvent::Halt) {
-        Ok(_reply) => {}
-        // The stop doesn't apply then, so another one or a doubt stands.
-        Err(_back) => {}
-    }
+    // Where there is no memory for it the stop doesn't apply, so another one or a doubt stands.
+    drop(access.put(CoreEvent::Halt));
     signals.write_no_more();
     signals.changed();
 }
@@ -96,8 +91,7 @@ pub fn settle_beside<A: Access, H: Host, G: Gate, R: Wait>(
     ensures leaves { LeavesBeside H.tells shape.now (side_of H.world H.faults settler.old host.old)
         (side_of H.world H.faults settler.new host.new) result (A.sight access.old) (A.sight access.new) }
 
-    ensures safe { IsSafe H.tells settler.new.writer (H.world host.new) }
-    ensures ready { StaysReady (H.is_ready host.old) (H.is_ready host.new) }
+    ensures safe { StaysSafe H.tells H.is_ready H.world settler.new.writer host.old host.new }
 {
     for _ in rt.forever() {
         let called = signals.called();

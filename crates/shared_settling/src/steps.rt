@@ -1,12 +1,11 @@
 ghost use Rattle.std.specs.Prelude.{◌≡◌, true, false, IfOk, IfErr};
-ghost use Rattle.host_trait.specs.Files.{StaysReady};
 ghost use Rattle.core_model.specs.Settler.{settler_step, Rests};
 ghost use Rattle.core_access.specs.FitAccess.{StaysFit};
 ghost use Rattle.core_access.specs.Sights.{run_seen};
 ghost use Rattle.settle_loop.specs.SettlerStep.{state_shown};
 ghost use Rattle.run_books.specs.declared.faults.RunFault.TheVariants.{InDoubt};
 ghost use Rattle.shared_settling.specs.SharedSettler.{SettlesAmong, KnowsTruly, LeavesBeside};
-ghost use Rattle.run_books.specs.Stages.{side_of, IsSafe};
+ghost use Rattle.run_books.specs.Stages.{side_of, IsSafe, StaysSafe};
 
 use base_types::Shape;
 use core_access::Access;
@@ -33,8 +32,7 @@ pub(crate) fn settle_once<A: Access, H: Host, G: Gate>(
     ensures rests { IfOk result (λ more. more ≡ false → (settler_step (state_shown (A.sight access.new)) ≡ Rests) × (settler.new.doubted ≡ false)) }
     ensures knows { KnowsTruly settler.old (run_seen (A.sight access.old)) → KnowsTruly settler.new (run_seen (A.sight access.new)) }
     ensures doubted { IfErr result (λ fault. fault ≡ InDoubt → settler.new.doubted ≡ true) }
-    ensures safe { IsSafe H.tells settler.new.writer (H.world host.new) }
-    ensures ready { StaysReady (H.is_ready host.old) (H.is_ready host.new) }
+    ensures safe { StaysSafe H.tells H.is_ready H.world settler.new.writer host.old host.new }
 {
     match settler.step(shape, access, host, gate)? {
         Turned::Stepped => Ok(true),

@@ -1,5 +1,6 @@
 -- The images while the program file is written, then what stands behind the header gate, and then the gate.
 use Rattle.std.proofs.Common.{◌≡◌, ◌≢◌, inl, inr, ℕ, zero, suc, ◌+◌, ◌<◌, ◌≤◌, List, [], ◌∷◌, ◌++◌, length, take, drop, slice_index, refl, sym, ◌∙◌, ap, subst, arith, length-append}
+use Rattle.std.proofs.lemmas.Grind.{common_steps}
 use Rattle.std.proofs.lemmas.List.{take_at}
 use Rattle.std.specs.Int.{w32, to_le_bytes}
 use Rattle.host_trait.specs.declared.channels.FileId.TheVariants.{Program as ProgramFile}
@@ -183,3 +184,11 @@ pub text_written : (slot : ℕ) (head : List ℕ) (n : ℕ) (w0 w1 w2 : World) �
 text_written slot head n w0 w1 w2 size written here overwrote behind there =
     run_wrote (ProgramFile slot) (Tears 0 (4 + n)) 0 w0 w1 w2 (length_written slot head n w0 w1 size written here) 4 n behind there (long_enough head (w0.disk (ProgramFile slot)) (w1.disk (ProgramFile slot)) size overwrote)
     (λ e d c first second. Tears-trans 0 (4 + n) e d c first (Tears-wider 4 n 0 (4 + n) d c (omega arith) (omega arith) second))
+
+-- bytes at the front, and then bytes behind them
+overlaid_behind : (file head text : List ℕ) → length head ≡ 4 → overlaid (overlaid file 0 head) 4 text ≡ overlaid file 0 (head ++ text)
+overlaid_behind file head text size = grind (arith, common_steps)
+
+-- the file then has the length and the text
+pub text_stands : (old mid new : FileState) (head text : List ℕ) → length head ≡ 4 → Overwrote 0 head old mid → Overwrote 4 text mid new → new.seen ≡ overlaid old.seen 0 (head ++ text)
+text_stands old mid new head text size first second = second.seen ∙ ap (λ (l : List ℕ). overlaid l 4 text) first.seen ∙ overlaid_behind old.seen head text size

@@ -1,6 +1,6 @@
 -- The images while a manager file is looked at, and while slot 0's header gate is closed: until each manager file that reads with bytes
 -- is synced they are those of entry, and from then on none is a silo.
-use Rattle.std.proofs.Common.{◌≡◌, ◌≢◌, ◌⊎◌, inl, inr, ℕ, zero, suc, ◌<◌, ◌≤◌, true, IsTrue, OnOk, is_ok, Result, Ok, Err, List, [], ◌∷◌, length, take, refl, sym, ◌∙◌, ap, subst, arith}
+use Rattle.std.proofs.Common.{◌≡◌, ◌≢◌, ◌⊎◌, inl, inr, ℕ, zero, suc, ◌<◌, ◌≤◌, true, List, [], ◌∷◌, length, take, refl, sym, ◌∙◌, ap, subst, arith}
 use Rattle.std.proofs.lemmas.Bool.{false≢true, cases_Bool, cases_eq}
 use Rattle.std.proofs.lemmas.Slice.Eq.{bytes_eq-Decides}
 use Rattle.std.specs.Str.{bytes_eq}
@@ -287,8 +287,3 @@ untouched_shown magic old new untouched shows image is slot low short silo = sho
 pub came_shown : (magic : List ℕ → Type 0) (old new : World) → IsUntouched old new ⊎ FromFirstSync (HasNoSilo magic) old new → ShowsSilos magic old.disk → ShowsSilos magic new.disk
 came_shown magic old new (inl untouched) shows = untouched_shown magic old new untouched shows
 came_shown magic old new (inr first) shows = none_shown magic new first.now
-
--- a clause on success, where it was one
-pub on_ok : {A E : Type 0} (P : Type 0) (result : Result A E) → OnOk result P → IsTrue (is_ok result) → P
-on_ok P (Ok value) holds ok = holds
-on_ok P (Err why) holds ok = absurd (false≢true ok)

@@ -1,3 +1,4 @@
+pub mod CallCounts
 pub mod Fronts
 pub mod ManagerLook
 pub mod GateClosing

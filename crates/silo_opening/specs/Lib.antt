@@ -3,3 +3,4 @@ pub mod NewSilos
 pub mod Counts
 pub mod OpenedSilo
 pub mod Inits
+pub mod CommandCalls

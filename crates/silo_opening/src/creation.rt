@@ -103,7 +103,9 @@ fn prepare<H: Host>(host: &mut H) -> Result<(), CreateFault>
     if is_closed(front) {
         return Ok(());
     }
-    close_header(host).map_err(|_| CreateFault::DiskFault { file: MANAGER })?;
+    let Ok(()) = close_header(host) else {
+        return Err(CreateFault::DiskFault { file: MANAGER });
+    };
     Ok(())
 }
 
@@ -238,10 +240,17 @@ fn fill<H: Host>(host: &mut H, program: &[u8]) -> Result<(), CreateFault>
     ensures already { IsErrOf result CreateFault.AlreadyASilo → ⊥ }
     ensures calls { HasCalled CreateFaulted result H.is_ready H.faults host.old host.new }
 {
-    let file = FileId::Program { slot: 0 };
-    write_program(host, 0, program).map_err(|_| CreateFault::DiskFault { file })?;
-    write_synced(host, MANAGER, 1, &HEADER).map_err(|_| CreateFault::DiskFault { file: MANAGER })?;
-    write_synced(host, MANAGER, 0, &[1]).map_err(|_| CreateFault::DiskFault { file: MANAGER })?;
+    let Ok(()) = write_program(host, 0, program) else {
+        return Err(CreateFault::DiskFault {
+            file: FileId::Program { slot: 0 },
+        });
+    };
+    let Ok(()) = write_synced(host, MANAGER, 1, &HEADER) else {
+        return Err(CreateFault::DiskFault { file: MANAGER });
+    };
+    let Ok(()) = write_synced(host, MANAGER, 0, &[1]) else {
+        return Err(CreateFault::DiskFault { file: MANAGER });
+    };
     Ok(())
 }
 

@@ -1,9 +1,9 @@
 ghost use Rattle.std.specs.Prelude.{◌≡◌, IsTrue};
-ghost use Rattle.host_trait.specs.Files.{StaysReady};
 ghost use Rattle.promise_spec.specs.Words as command;
 ghost use Rattle.promise_spec.specs.Checks.{Checks};
-ghost use Rattle.promise_spec.specs.Endings.{HasFailedAs, BadUse};
+ghost use Rattle.promise_spec.specs.Endings.{BadUse};
 ghost use Rattle.silo_top.specs.CallAnswers.{shown};
+ghost use Rattle.silo_opening.specs.CommandCalls.{HasCalledAs};
 ghost use Rattle.silo_top.specs.Statuses.{status_ending};
 
 use crate::status::Status;
@@ -14,9 +14,8 @@ use std::alloc::{AllocError, Global};
 pub(crate) fn check<H: Host>(alloc: Global, host: &mut H, starts: u32, seed: u64) -> Status
     ensures checks { IsTrue H.tells → Checks starts seed
         (shown (H.world host.old) (H.world host.new) (H.faults host.old) (H.faults host.new) result (command.Check starts seed)) }
-    ensures exact { HasFailedAs (status_ending result) (H.faults host.old) (H.faults host.new) }
+    ensures calls { HasCalledAs (status_ending result) H.is_ready H.faults host.old host.new }
     ensures good { status_ending result ≡ BadUse → ⊥ }
-    ensures ready { StaysReady (H.is_ready host.old) (H.is_ready host.new) }
 {
     let summary = match two_silos::check(starts, seed, alloc) {
         Ok(summary) => summary,

@@ -2,11 +2,12 @@ ghost use Rattle.std.specs.Prelude.{◌≡◌, ◌⊎◌, IsTrue, IfOk, IfErr, O
 ghost use Rattle.host_trait.specs.Files.{StaysReady};
 ghost use Rattle.promise_spec.specs.Words as command;
 ghost use Rattle.promise_spec.specs.Commands.{MakesSilo};
-ghost use Rattle.promise_spec.specs.Endings.{HasFailedAs, BadUse, Memory};
+ghost use Rattle.promise_spec.specs.Endings.{BadUse, Memory};
 ghost use Rattle.promise_spec.specs.Calls.{Understands, Serves, AnswersAs};
 ghost use Rattle.command_words.specs.CutParts.{texts_of};
 ghost use Rattle.silo_top.specs.CallAnswers.{shown};
 ghost use Rattle.silo_top.specs.AskedCommand.{AskForNoWorkers, left_command, MayBeLeft};
+ghost use Rattle.silo_opening.specs.CommandCalls.{HasCalledAs};
 ghost use Rattle.silo_top.specs.Statuses.{status_ending};
 
 use crate::asked_command::{Asked, Carriage, read_asked};
@@ -30,9 +31,8 @@ use std::thread::Threads;
 fn make<H: Host>(alloc: Global, host: &mut H) -> Status
     ensures makes { IsTrue H.tells → MakesSilo
         (shown (H.world host.old) (H.world host.new) (H.faults host.old) (H.faults host.new) result command.Init) }
-    ensures exact { HasFailedAs (status_ending result) (H.faults host.old) (H.faults host.new) }
+    ensures calls { HasCalledAs (status_ending result) H.is_ready H.faults host.old host.new }
     ensures good { status_ending result ≡ BadUse → ⊥ }
-    ensures ready { StaysReady (H.is_ready host.old) (H.is_ready host.new) }
 {
     match init(alloc, host) {
         Ok(()) => Status::Done,

@@ -1,10 +1,9 @@
 ghost use Rattle.std.specs.Prelude.{◌≤◌, ◌<◌, ℕ};
-ghost use Rattle.host_trait.specs.Files.{StaysReady};
 ghost use Rattle.history_core.specs.Cores.{run_of};
 ghost use Rattle.script_tree.specs.Programs.{program_tree};
 ghost use Rattle.silo_top.specs.CallAnswers.{turns_manner, workers_manner};
 ghost use Rattle.silo_top.specs.LineExecution.{CarriedLines};
-ghost use Rattle.run_books.specs.Stages.{side_of, stage_of, IsSafe};
+ghost use Rattle.run_books.specs.Stages.{side_of, stage_of, IsSafe, StaysSafe};
 
 use base_types::List;
 use history_core::Core;
@@ -36,8 +35,7 @@ pub(crate) fn carry_in_turns<H: Host, G: Gate, L: Lines + Copy>(
     requires safe { IsSafe H.tells settler.old.writer (H.world host.old) }
     ensures carried { CarriedLines H.tells (turns_manner width picks.now) (program_tree checked.now) (L.lines lines) used.old used.new
         (stage_of H.world H.faults (run_of core) settler.old host.old) (side_of H.world H.faults settler.new host.new) result }
-    ensures safe { IsSafe H.tells settler.new.writer (H.world host.new) }
-    ensures ready { StaysReady (H.is_ready host.old) (H.is_ready host.new) }
+    ensures safe { StaysSafe H.tells H.is_ready H.world settler.new.writer host.old host.new }
 {
     let mut core = core;
     let mut lines = lines;
@@ -74,8 +72,7 @@ pub(crate) fn carry_by_workers<
     requires safe { IsSafe H.tells settler.old.writer (H.world host.old) }
     ensures carried { (used : ℕ) → CarriedLines H.tells workers_manner (program_tree checked.now) (L.lines lines) used used
         (stage_of H.world H.faults (run_of core) settler.old host.old) (side_of H.world H.faults settler.new host.new) result }
-    ensures safe { IsSafe H.tells settler.new.writer (H.world host.new) }
-    ensures ready { StaysReady (H.is_ready host.old) (H.is_ready host.new) }
+    ensures safe { StaysSafe H.tells H.is_ready H.world settler.new.writer host.old host.new }
 {
     let (back, ended) = run_with_workers(
         rt,

@@ -4,12 +4,13 @@ ghost use Rattle.host_trait.specs.Files.{StaysReady};
 ghost use Rattle.core_model.specs.LegalRuns.{ends};
 ghost use Rattle.history_core.specs.Cores.{run_of};
 ghost use Rattle.promise_spec.specs.Words as command;
-ghost use Rattle.promise_spec.specs.Endings.{HasFailedAs, MayEndLoad};
+ghost use Rattle.promise_spec.specs.Endings.{MayEndLoad};
 ghost use Rattle.promise_spec.specs.Loads.{Loads};
 ghost use Rattle.bank_load.specs.Summaries.{summary_line, total_kept};
 ghost use Rattle.silo_top.specs.CallAnswers.{AnswersRun, shown, turns_manner, workers_manner};
 ghost use Rattle.silo_top.specs.Continuation.{CanCarry, LoadCounts, LoadSays, LoadsOn, LoadAnswersOn};
 ghost use Rattle.silo_top.specs.LoadSteps.{creation_ending, load_ending, SaysSummary, MaySaySummary};
+ghost use Rattle.silo_opening.specs.CommandCalls.{HasCalledAs};
 ghost use Rattle.silo_top.specs.Statuses.{status_ending};
 
 use crate::line_execution::{carry_by_workers, carry_in_turns};
@@ -35,9 +36,8 @@ fn print_summary<H: Host>(alloc: Global, core: &Core, requests: usize, host: &mu
     ensures says { IsTrue H.tells → SaysSummary
         (summary_line (ends (run_of core.now)).manager.settled requests (total_kept (ends (run_of core.now)) 64))
         (status_ending result) (H.world host.old) (H.world host.new) }
-    ensures exact { HasFailedAs (status_ending result) (H.faults host.old) (H.faults host.new) }
+    ensures calls { HasCalledAs (status_ending result) H.is_ready H.faults host.old host.new }
     ensures may { MaySaySummary (status_ending result) }
-    ensures ready { StaysReady (H.is_ready host.old) (H.is_ready host.new) }
 {
     // The core of a load keeps the last states. One that didn't would have no sum, and ends as where memory is wanting.
     if !core.keeps_last() {

@@ -1,10 +1,10 @@
 ghost use Rattle.std.specs.Prelude.{◌≡◌, IsTrue};
-ghost use Rattle.host_trait.specs.Files.{StaysReady};
 ghost use Rattle.promise_spec.specs.Words as command;
 ghost use Rattle.promise_spec.specs.Migration.{Migrates};
-ghost use Rattle.promise_spec.specs.Endings.{HasFailedAs, BadUse};
+ghost use Rattle.promise_spec.specs.Endings.{BadUse};
 ghost use Rattle.checkpoint.specs.Endings.{migrate_ending};
 ghost use Rattle.silo_top.specs.CallAnswers.{shown};
+ghost use Rattle.silo_opening.specs.CommandCalls.{HasCalledAs};
 ghost use Rattle.silo_top.specs.Statuses.{status_ending};
 
 use crate::run_command::open_status;
@@ -28,9 +28,8 @@ fn migrate_status(ended: Result<(), MigrateFault>) -> Status
 pub(crate) fn migrate<H: Host>(alloc: Global, host: &mut H) -> Status
     ensures migrates { IsTrue H.tells → Migrates
         (shown (H.world host.old) (H.world host.new) (H.faults host.old) (H.faults host.new) result command.Migrate) }
-    ensures exact { HasFailedAs (status_ending result) (H.faults host.old) (H.faults host.new) }
+    ensures calls { HasCalledAs (status_ending result) H.is_ready H.faults host.old host.new }
     ensures good { status_ending result ≡ BadUse → ⊥ }
-    ensures ready { StaysReady (H.is_ready host.old) (H.is_ready host.new) }
 {
     migrate_status(checkpoint::migrate(alloc, host))
 }

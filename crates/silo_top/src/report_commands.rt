@@ -1,10 +1,10 @@
 ghost use Rattle.std.specs.Prelude.{◌≡◌, IsTrue};
-ghost use Rattle.host_trait.specs.Files.{StaysReady};
 ghost use Rattle.promise_spec.specs.Words as command;
 ghost use Rattle.promise_spec.specs.Commands.{Reports, ShowsStates, Audits};
-ghost use Rattle.promise_spec.specs.Endings.{HasFailedAs, BadUse};
+ghost use Rattle.promise_spec.specs.Endings.{BadUse};
 ghost use Rattle.log_audit.specs.Endings.{report_ending};
 ghost use Rattle.silo_top.specs.CallAnswers.{shown};
+ghost use Rattle.silo_opening.specs.CommandCalls.{HasCalledAs};
 ghost use Rattle.silo_top.specs.Statuses.{status_ending};
 
 use crate::status::Status;
@@ -31,9 +31,8 @@ fn report_status(ended: Result<(), ReportFault>) -> Status
 pub(crate) fn show<H: Host>(alloc: Global, host: &mut H) -> Status
     ensures reports { IsTrue H.tells → ShowsStates
         (shown (H.world host.old) (H.world host.new) (H.faults host.old) (H.faults host.new) result command.Show) }
-    ensures exact { HasFailedAs (status_ending result) (H.faults host.old) (H.faults host.new) }
+    ensures calls { HasCalledAs (status_ending result) H.is_ready H.faults host.old host.new }
     ensures good { status_ending result ≡ BadUse → ⊥ }
-    ensures ready { StaysReady (H.is_ready host.old) (H.is_ready host.new) }
 {
     report_status(log_audit::show(alloc, host))
 }
@@ -42,9 +41,8 @@ pub(crate) fn show<H: Host>(alloc: Global, host: &mut H) -> Status
 pub(crate) fn history<H: Host>(alloc: Global, host: &mut H) -> Status
     ensures reports { IsTrue H.tells → Reports
         (shown (H.world host.old) (H.world host.new) (H.faults host.old) (H.faults host.new) result command.History) }
-    ensures exact { HasFailedAs (status_ending result) (H.faults host.old) (H.faults host.new) }
+    ensures calls { HasCalledAs (status_ending result) H.is_ready H.faults host.old host.new }
     ensures good { status_ending result ≡ BadUse → ⊥ }
-    ensures ready { StaysReady (H.is_ready host.old) (H.is_ready host.new) }
 {
     report_status(log_audit::history(alloc, host))
 }
@@ -53,9 +51,8 @@ pub(crate) fn history<H: Host>(alloc: Global, host: &mut H) -> Status
 pub(crate) fn audit<H: Host>(alloc: Global, host: &mut H) -> Status
     ensures audits { IsTrue H.tells → Audits
         (shown (H.world host.old) (H.world host.new) (H.faults host.old) (H.faults host.new) result command.Audit) }
-    ensures exact { HasFailedAs (status_ending result) (H.faults host.old) (H.faults host.new) }
+    ensures calls { HasCalledAs (status_ending result) H.is_ready H.faults host.old host.new }
     ensures good { status_ending result ≡ BadUse → ⊥ }
-    ensures ready { StaysReady (H.is_ready host.old) (H.is_ready host.new) }
 {
     report_status(log_audit::print_audit(alloc, host))
 }

@@ -55,10 +55,24 @@ pub(crate) fn start(alloc: Global, opened: Opened, quiet: bool) -> Result<Starte
     ensures bounds { IfOk result (λ started. IsInBounds started.settler.writer) }
 {
     let Some(session) = opened.next_session() else {
+        drop(opened);
         return Err(AllocError);
     };
-    let shape = opened.checked.shape()?;
-    let recent = unused_memory(alloc)?;
+    let shape = match opened.checked.shape() {
+        Ok(shape) => shape,
+        Err(AllocError) => {
+            drop(opened);
+            return Err(AllocError);
+        }
+    };
+    let recent = match unused_memory(alloc) {
+        Ok(recent) => recent,
+        Err(AllocError) => {
+            drop(shape);
+            drop(opened);
+            return Err(AllocError);
+        }
+    };
     let core = Core::new(
         alloc,
         Opening {
@@ -69,7 +83,8 @@ pub(crate) fn start(alloc: Global, opened: Opened, quiet: bool) -> Result<Starte
             keeps_last: quiet,
         },
     );
-    let settler = Settler::new(
+    drop(opened.text);
+    let settler = match Settler::new(
         alloc,
         opened.slot,
         opened.gate_at,
@@ -78,7 +93,14 @@ pub(crate) fn start(alloc: Global, opened: Opened, quiet: bool) -> Result<Starte
         opened.places,
         opened.programs,
         session,
-    )?;
+    ) {
+        Ok(settler) => settler,
+        Err(AllocError) => {
+            drop(core);
+            drop(opened.checked);
+            return Err(AllocError);
+        }
+    };
     Ok(Started {
         slot: opened.slot,
         checked: opened.checked,

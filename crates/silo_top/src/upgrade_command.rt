@@ -1,10 +1,10 @@
 ghost use Rattle.std.specs.Prelude.{◌≡◌, IsTrue};
-ghost use Rattle.host_trait.specs.Files.{StaysReady};
 ghost use Rattle.promise_spec.specs.Words as command;
-ghost use Rattle.promise_spec.specs.Endings.{HasFailedAs, BadUse};
+ghost use Rattle.promise_spec.specs.Endings.{BadUse};
 ghost use Rattle.promise_spec.specs.Upgrading.{UpgradesSilo};
 ghost use Rattle.silo_upgrade.specs.Endings.{ending_for};
 ghost use Rattle.silo_top.specs.CallAnswers.{shown};
+ghost use Rattle.silo_opening.specs.CommandCalls.{HasCalledAs};
 ghost use Rattle.silo_top.specs.Statuses.{status_ending};
 
 use crate::run_command::open_status;
@@ -32,9 +32,8 @@ fn upgrade_status(end: UpgradeEnd) -> Status
 pub(crate) fn upgrade<H: Host>(alloc: Global, host: &mut H) -> Status
     ensures upgrades { IsTrue H.tells → UpgradesSilo
         (shown (H.world host.old) (H.world host.new) (H.faults host.old) (H.faults host.new) result command.Upgrade) }
-    ensures exact { HasFailedAs (status_ending result) (H.faults host.old) (H.faults host.new) }
+    ensures calls { HasCalledAs (status_ending result) H.is_ready H.faults host.old host.new }
     ensures good { status_ending result ≡ BadUse → ⊥ }
-    ensures ready { StaysReady (H.is_ready host.old) (H.is_ready host.new) }
 {
     match silo_upgrade::upgrade(alloc, host) {
         Ok(()) => Status::Done,

@@ -1,13 +1,11 @@
-ghost use Rattle.std.specs.Prelude.{◌≡◌, ◌≤◌, ℕ, List, IsTrue, Ok, OnOk, IfOk, IfErr, vec_len};
-ghost use Rattle.host_trait.specs.Files.{StaysReady};
-ghost use Rattle.host_trait.specs.Faults.{NoneFailed};
+ghost use Rattle.std.specs.Prelude.{◌≡◌, ◌≤◌, ℕ, List, IsTrue, Ok, IfOk, IfErr, vec_len};
 ghost use Rattle.script_tree.specs.Programs.{program_tree};
 ghost use Rattle.program_file.specs.Programs.{program_in};
 ghost use Rattle.program_file.specs.Answers.{program_fault_place};
 ghost use Rattle.promise_spec.specs.Words.{Manner};
-ghost use Rattle.promise_spec.specs.Endings.{HasFailedAs};
 ghost use Rattle.promise_spec.specs.Upgrading.{IsInputRefused};
-ghost use Rattle.silo_upgrade.specs.Endings.{input_end, program_end, ending_for, ended_so};
+ghost use Rattle.silo_opening.specs.CommandCalls.{HasCalledAs};
+ghost use Rattle.silo_upgrade.specs.Endings.{input_end, program_end, ending_for, upgrade_ending, ended_so};
 ghost use Rattle.silo_upgrade.specs.Steps.{HasReadText};
 
 use crate::faults::UpgradeEnd;
@@ -50,9 +48,7 @@ pub(crate) fn read_program<H: Host>(
     // Where it isn't read, or is no program, that is what the command promises.
     ensures refused { IfErr result (λ e. IsTrue H.tells → (manner : Manner) (asked : List (List ℕ))
         → IsInputRefused (ended_so manner asked (H.world host.old) (H.world host.new) (H.faults host.old) (H.faults host.new) (ending_for e))) }
-    ensures calm { OnOk result (NoneFailed (H.faults host.old) (H.faults host.new)) }
-    ensures fault { IfErr result (λ e. HasFailedAs (ending_for e) (H.faults host.old) (H.faults host.new)) }
-    ensures ready { StaysReady (H.is_ready host.old) (H.is_ready host.new) }
+    ensures calls { HasCalledAs (upgrade_ending result) H.is_ready H.faults host.old host.new }
 {
     let text = match read_input(alloc, host) {
         Ok(text) => text,

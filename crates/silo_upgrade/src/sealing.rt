@@ -1,13 +1,11 @@
 ghost use Rattle.std.specs.Prelude.{◌≡◌, ◌⊎◌, ◌+◌, ◌^◌, ◌<◌, ◌≤◌, IsTrue, length, OnOk, IfErr};
 ghost use Rattle.host_trait.specs.Disk.{Tears};
-ghost use Rattle.host_trait.specs.Files.{StaysReady};
-ghost use Rattle.host_trait.specs.Faults.{NoneFailed};
 ghost use Rattle.host_trait.specs.Runs.{RunsOnFile};
 ghost use Rattle.host_trait.specs.declared.channels.FileId.TheVariants.{Manager};
 ghost use Rattle.gate_block.specs.Gates.{IsClosedAt};
-ghost use Rattle.promise_spec.specs.Endings.{HasFailedAs};
+ghost use Rattle.silo_opening.specs.CommandCalls.{HasCalledAs};
 ghost use Rattle.silo_upgrade.specs.declared.faults.UpgradeEnd.{UpgradeEnd as AnEnd};
-ghost use Rattle.silo_upgrade.specs.Endings.{ending_for};
+ghost use Rattle.silo_upgrade.specs.Endings.{upgrade_ending};
 ghost use Rattle.silo_upgrade.specs.Steps.{upgrade_block, SealsText, HasSealedText};
 
 use crate::faults::UpgradeEnd;
@@ -42,9 +40,7 @@ pub(crate) fn seal_upgrade<H: Host>(
 
     // It ends for a fault of that file, or for want of memory, and then nothing was done.
     ensures stopped { IfErr result (λ e. (e ≡ AnEnd.DiskFault (Manager slot)) ⊎ ((e ≡ AnEnd.Memory) × (host.new ≡ host.old))) }
-    ensures calm { OnOk result (NoneFailed (H.faults host.old) (H.faults host.new)) }
-    ensures fault { IfErr result (λ e. HasFailedAs (ending_for e) (H.faults host.old) (H.faults host.new)) }
-    ensures ready { StaysReady (H.is_ready host.old) (H.is_ready host.new) }
+    ensures calls { HasCalledAs (upgrade_ending result) H.is_ready H.faults host.old host.new }
 {
     let block = match encode_upgrade(alloc, text, session) {
         Ok(block) => block,

@@ -1,7 +1,6 @@
 // The threads.
 ghost use Rattle.std.specs.Thread.{IsSync};
 ghost use Rattle.std.specs.Prelude.{◌≡◌, ◌+◌, ◌≤◌, [], false, length};
-ghost use Rattle.host_trait.specs.Files.{StaysReady};
 ghost use Rattle.core_access.specs.PassSights.{sight_of};
 ghost use Rattle.history_core.specs.Cores.{run_of};
 ghost use Rattle.script_tree.specs.Programs.{program_tree};
@@ -11,7 +10,7 @@ ghost use Rattle.unit_crew.specs.Crews.{IsBasisOf};
 ghost use Rattle.worker_rules.specs.JoinedPasses.{sight_by};
 ghost use Rattle.silo_workers.specs.SettlerThread.{HasSettled};
 ghost use Rattle.silo_workers.specs.WorkerPasses.{HasWorked, IsFreshPass, BringsBack, BringsTogether, IsGathered, both_ends};
-ghost use Rattle.run_books.specs.Stages.{side_of, IsSafe};
+ghost use Rattle.run_books.specs.Stages.{side_of, IsSafe, StaysSafe};
 
 use crate::settler_thread::settle_by_pass;
 use crate::team::Team;
@@ -83,8 +82,7 @@ fn settle_for<R: Wait, H: Host, G: Gate, L: Lines>(
         (side_of H.world H.faults settler.new host.new) result.1.settled (sight_of run_of (pass_view pass)))
         (program_tree team.now.checked.now) team.now.before (L.lines team.now.lines.now) result.1.end pass result.0 }
     ensures none { result.1.started ≡ false → (settler.new ≡ settler.old) × (host.new ≡ host.old) }
-    ensures safe { IsSafe H.tells settler.new.writer (H.world host.new) }
-    ensures ready { StaysReady (H.is_ready host.old) (H.is_ready host.new) }
+    ensures safe { StaysSafe H.tells H.is_ready H.world settler.new.writer host.old host.new }
 {
     let _named: PhantomData<(CoreQuestion, CoreAnswer)> = PhantomData;
     if !started {
@@ -124,8 +122,7 @@ fn crowd<'s, E, R: Threads + Wait + Sync, H: Host, G: Gate + Sync, L: Lines + Co
         (side_of H.world H.faults settler.new host.new) result.1.settled (sight_of run_of (pass_view pass)))
         (program_tree team.now.checked.now) team.now.before (L.lines team.now.lines.now) result.1.end pass result.0 }
     ensures none { result.1.started ≡ false → (settler.new ≡ settler.old) × (host.new ≡ host.old) }
-    ensures safe { IsSafe H.tells settler.new.writer (H.world host.new) }
-    ensures ready { StaysReady (H.is_ready host.old) (H.is_ready host.new) }
+    ensures safe { StaysSafe H.tells H.is_ready H.world settler.new.writer host.old host.new }
 {
     let named: PhantomData<(CoreQuestion, CoreAnswer)> = PhantomData;
     let Some((flag, rest)) = flags.split_first() else {
@@ -181,8 +178,7 @@ fn in_scope<R: Threads + Wait + Sync, H: Host, G: Gate + Sync, L: Lines + Copy +
         (side_of H.world H.faults result.2 host.new) result.1.settled (sight_of run_of (pass_view pass)))
         (program_tree team.now.checked.now) team.now.before (L.lines team.now.lines.now) result.1.end pass result.0 }
     ensures none { result.1.started ≡ false → (result.2 ≡ settler) × (host.new ≡ host.old) }
-    ensures safe { IsSafe H.tells result.2.writer (H.world host.new) }
-    ensures ready { StaysReady (H.is_ready host.old) (H.is_ready host.new) }
+    ensures safe { StaysSafe H.tells H.is_ready H.world result.2.writer host.old host.new }
 {
     let named: PhantomData<(CoreQuestion, CoreAnswer)> = PhantomData;
     let (pass, gathered, settler, _host) = thread::scope(
@@ -197,8 +193,7 @@ fn in_scope<R: Threads + Wait + Sync, H: Host, G: Gate + Sync, L: Lines + Copy +
                 (side_of H.world H.faults result.2 result.3.now) result.1.settled (sight_of run_of (pass_view pass)))
                 (program_tree team.entry.now.checked.now) team.entry.now.before (L.lines team.entry.now.lines.now) result.1.end pass result.0 }
             ensures none { result.1.started ≡ false → (result.2 ≡ settler) × (result.3.now ≡ host.entry.now) }
-            ensures safe { IsSafe H.tells result.2.writer (H.world result.3.now) }
-            ensures ready { StaysReady (H.is_ready host.entry.now) (H.is_ready result.3.now) }
+            ensures safe { StaysSafe H.tells H.is_ready H.world result.2.writer host.entry.now result.3.now }
             ensures host { result.3.ghost_name ≡ host.entry.ghost_name }
         {
             let _named = named;
@@ -240,8 +235,7 @@ pub(crate) fn gather<R: Threads + Wait + Sync, H: Host, G: Gate + Sync, L: Lines
         (HasWorked (IsBasisOf (program_tree team.entry.checked.now) team.entry.before (L.lines team.entry.lines.now)) result.1.end)
         (run_of (pass_view pass).first) (run_of result.0) }
     ensures none { result.1.started ≡ false → (settler.new ≡ settler.old) × (host.new ≡ host.old) }
-    ensures safe { IsSafe H.tells settler.new.writer (H.world host.new) }
-    ensures ready { StaysReady (H.is_ready host.old) (H.is_ready host.new) }
+    ensures safe { StaysSafe H.tells H.is_ready H.world settler.new.writer host.old host.new }
 {
     let _named: PhantomData<(CoreQuestion, CoreAnswer)> = PhantomData;
     let all = [

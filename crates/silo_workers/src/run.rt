@@ -1,5 +1,4 @@
 ghost use Rattle.std.specs.Prelude.{◌≡◌, ◌≤◌, [], None, Err, true, false, IfOk, IfSome, ◌<◌};
-ghost use Rattle.host_trait.specs.Files.{StaysReady};
 ghost use Rattle.core_model.specs.LegalRuns.{ends};
 ghost use Rattle.history_core.specs.Cores.{run_of};
 ghost use Rattle.batch_disk.specs.Writers.{IsInBounds};
@@ -9,7 +8,7 @@ ghost use Rattle.run_books.specs.Records.{RecordGoesOn};
 ghost use Rattle.interleaver.specs.Turns.{TurnsCarry, WhereTurnsBegin};
 ghost use Rattle.run_books.specs.declared.faults.RunFault.TheVariants.{Memory};
 ghost use Rattle.silo_workers.specs.declared.work.WorkEnd.TheVariants.{Idle};
-ghost use Rattle.run_books.specs.Stages.{stage_of, IsSafe};
+ghost use Rattle.run_books.specs.Stages.{stage_of, IsSafe, StaysSafe};
 
 use crate::crowd::{Gathered, gather};
 use crate::run_end::end_run;
@@ -89,8 +88,7 @@ fn carry_in_turns<H: Host, G: Gate, L: Lines + Copy>(
     ensures carries { TurnsCarry H.tells (program_tree checked.now) (L.lines lines.now) 1 [] 0
         (stage_of H.world H.faults (run_of core.old) settler.old host.old)
         (stage_of H.world H.faults (run_of core.new) settler.new host.new) result }
-    ensures safe { IsSafe H.tells settler.new.writer (H.world host.new) }
-    ensures ready { StaysReady (H.is_ready host.old) (H.is_ready host.new) }
+    ensures safe { StaysSafe H.tells H.is_ready H.world settler.new.writer host.old host.new }
 {
     let mut lines = *lines;
     let mut used = 0;
@@ -152,8 +150,7 @@ pub fn run_with_workers<R: Threads + Wait + Sync, H: Host, G: Gate + Sync, L: Li
         (stage_of H.world H.faults (run_of c) settler.new host.new) result.1) }
     ensures lost { result.0 ≡ None → (result.1 ≡ Err Memory) × (settler.new ≡ settler.old) × (host.new ≡ host.old) }
 
-    ensures safe { IsSafe H.tells settler.new.writer (H.world host.new) }
-    ensures ready { StaysReady (H.is_ready host.old) (H.is_ready host.new) }
+    ensures safe { StaysSafe H.tells H.is_ready H.world settler.new.writer host.old host.new }
 {
     let _named: PhantomData<(CoreQuestion, CoreAnswer)> = PhantomData;
     let _program = checked.program();
@@ -167,30 +164,38 @@ pub fn run_with_workers<R: Threads + Wait + Sync, H: Host, G: Gate + Sync, L: Li
     };
     let blank = match blank_settler(alloc) {
         Ok(blank) => blank,
-        Err(AllocError) => return (Some(core), Err(RunFault::Memory)),
-    };
-    match TurnCell::new(alloc, core) {
-        Ok((cell, pass)) => {
-            let signals = Signals::new();
-            let team = Team {
-                rt,
-                alloc,
-                checked,
-                lines,
-                before,
-                cell,
-                gate,
-                signals,
-            };
-            let (mut core, gathered) = gather(team, workers, pass, &shape, settler, blank, host);
-            if has_none(&gathered) {
-                let ended = carry_in_turns(alloc, checked, &mut core, settler, lines, host, gate);
-                return (Some(core), ended);
-            }
-            core.show_few();
-            let ended = end_run(&shape, &mut core, settler, host, gate, gathered);
-            (Some(core), ended)
+        Err(AllocError) => {
+            drop(shape);
+            return (Some(core), Err(RunFault::Memory));
         }
-        Err(AllocError) => (None, Err(RunFault::Memory)),
+    };
+    let (cell, pass) = match TurnCell::new(alloc, core) {
+        Ok(made) => made,
+        Err(AllocError) => {
+            drop(blank);
+            drop(shape);
+            return (None, Err(RunFault::Memory));
+        }
+    };
+    let team = Team {
+        rt,
+        alloc,
+        checked,
+        lines,
+        before,
+        cell,
+        gate,
+        signals: Signals::new(),
+    };
+    let (mut core, gathered) = gather(team, workers, pass, &shape, settler, blank, host);
+    if has_none(&gathered) {
+        drop(gathered);
+        drop(shape);
+        let ended = carry_in_turns(alloc, checked, &mut core, settler, lines, host, gate);
+        return (Some(core), ended);
     }
+    core.show_few();
+    let ended = end_run(&shape, &mut core, settler, host, gate, gathered);
+    drop(shape);
+    (Some(core), ended)
 }

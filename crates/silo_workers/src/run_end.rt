@@ -1,5 +1,4 @@
 // How a run with workers ends.
-ghost use Rattle.host_trait.specs.Files.{StaysReady};
 ghost use Rattle.core_access.specs.OneHolder.{own_sight};
 ghost use Rattle.history_core.specs.Cores.{run_of};
 ghost use Rattle.run_books.specs.Beginnings.{Outset};
@@ -7,7 +6,7 @@ ghost use Rattle.run_books.specs.RecordFrame.{TurnsBeside};
 ghost use Rattle.run_books.specs.Books.{Books};
 ghost use Rattle.run_books.specs.Records.{RecordGoesOn};
 ghost use Rattle.silo_workers.specs.RunEnd.{HasGathered};
-ghost use Rattle.run_books.specs.Stages.{Stage, stage_of, IsSafe};
+ghost use Rattle.run_books.specs.Stages.{Stage, stage_of, IsSafe, StaysSafe};
 
 use crate::crowd::Gathered;
 use crate::work::WorkEnd;
@@ -34,8 +33,7 @@ pub(crate) fn end_run<H: Host, G: Gate>(
     ensures beside { (s : Stage)
         → TurnsBeside H.tells s (stage_of H.world H.faults (run_of core.old) settler.old host.old) gathered.settled
         → TurnsBeside H.tells s (stage_of H.world H.faults (run_of core.new) settler.new host.new) result }
-    ensures safe { IsSafe H.tells settler.new.writer (H.world host.new) }
-    ensures ready { StaysReady (H.is_ready host.old) (H.is_ready host.new) }
+    ensures safe { StaysSafe H.tells H.is_ready H.world settler.new.writer host.old host.new }
 {
     let Gathered {
         started: _started,

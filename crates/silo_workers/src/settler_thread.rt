@@ -1,12 +1,11 @@
 // What the calling thread does with its pass.
 ghost use Rattle.std.specs.Prelude.{◌≡◌};
-ghost use Rattle.host_trait.specs.Files.{StaysReady};
 ghost use Rattle.core_access.specs.PassSights.{sight_of};
 ghost use Rattle.history_core.specs.Cores.{run_of};
 ghost use Rattle.turn_cell.specs.Passes.{IsPassOf, pass_view};
 ghost use Rattle.worker_rules.specs.JoinedPasses.{Returns};
 ghost use Rattle.silo_workers.specs.SettlerThread.{SettlesBeside};
-ghost use Rattle.run_books.specs.Stages.{side_of, IsSafe};
+ghost use Rattle.run_books.specs.Stages.{side_of, IsSafe, StaysSafe};
 
 use crate::reach::Reach;
 use crate::team::Team;
@@ -37,8 +36,7 @@ pub(crate) fn settle_by_pass<R: Wait, H: Host, G: Gate, L: Lines>(
         (SettlesBeside H.tells shape.now (side_of H.world H.faults settler.old host.old)
         (side_of H.world H.faults settler.new host.new) result.1 (sight_of run_of (pass_view pass)))
         (pass_view pass) (pass_view result.0) }
-    ensures safe { IsSafe H.tells settler.new.writer (H.world host.new) }
-    ensures ready { StaysReady (H.is_ready host.old) (H.is_ready host.new) }
+    ensures safe { StaysSafe H.tells H.is_ready H.world settler.new.writer host.old host.new }
 {
     let _named: PhantomData<(CoreQuestion, CoreAnswer)> = PhantomData;
     let mut reach = Reach {

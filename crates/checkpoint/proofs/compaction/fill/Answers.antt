@@ -5,11 +5,14 @@ use Rattle.std.specs.List.{AllZip}
 use Rattle.std.proofs.lemmas.List.{take_at}
 use Rattle.std.proofs.lemmas.Result.{err_from_is_err_and}
 use Rattle.std.proofs.lemmas.Slice.Zip.{AllZip-long}
+use Rattle.host_trait.specs.declared.channels.Channel.{Channel}
 use Rattle.host_trait.specs.declared.channels.FileId.TheVariants.{Manager, Program as ProgramFile}
+use Rattle.host_trait.specs.Faults.{NoneFailed}
 use Rattle.host_trait.specs.Disk.{overlaid, settled}
 use Rattle.field_codec.specs.declared.formats.Format.TheVariants.{Two}
 use Rattle.commit_log.specs.declared.records.Named.{Named}
 use Rattle.log_reading.specs.declared.faults.FolderFault.{FolderFault}
+use Rattle.log_reading.specs.Counts.{ReadFaulted}
 use Rattle.log_reading.specs.Steps.{seen_in}
 use Rattle.log_reading.proofs.Errors.{other_value}
 use Rattle.program_file.specs.Succession.{shapes_in_turn}
@@ -18,6 +21,7 @@ use Rattle.promise_spec.specs.Entries.{checkpointed}
 use Rattle.checkpoint.specs.Copies.{writes_named, AreThere, IsCopied}
 use Rattle.checkpoint.specs.Pieces.{HasPieces}
 use Rattle.checkpoint.proofs.Fillings.{closes_quietly, run_quietly, copies_quietly, then_quietly, grains_kept, there_still, first_gone, second_filled, third_filled, fourth_filled, last_gone, last_done, some_left}
+use Rattle.checkpoint.proofs.Endings.{calm_then}
 use Rattle.checkpoint.proofs.KeptSessions.{pieces_said}
 use Rattle.checkpoint.proofs.compaction.fill.Goals as goal
 
@@ -25,6 +29,10 @@ use Rattle.checkpoint.proofs.compaction.fill.Goals as goal
 on_ok : {T E : Type 0} (r : Result T E) {P : Type 0} → is_err r ≡ false → OnOk r P → P
 on_ok (Ok x) is holds = holds
 on_ok (Err e) is holds = absurd (cc is)
+
+-- a fault behind calls that didn't fail
+faulted_before : (e : FolderFault) (before mid after : Channel → ℕ) → NoneFailed before mid → ReadFaulted e mid after → ReadFaulted e before after
+faulted_before e before mid after none faulted = subst (λ (f : Channel → ℕ). ReadFaulted e f after) (λ i c. none c i) faulted
 
 pub returns-then-is_err-clause-gone : goal.returns-then-is_err-clause-gone
 returns-then-is_err-clause-gone g c told p log may =
@@ -257,3 +265,75 @@ pub returns-in_err-write_pieces-clause-damaged : goal.returns-in_err-write_piece
 returns-in_err-write_pieces-clause-damaged g c =
     let p = err_from_is_err_and c.from_residual-in_err-write_pieces.result c.from_residual-in_err-write_pieces.ensures.1 in
     rw (p.1, p.2) λ file place is told each. absurd (c.in_err-write_pieces.ensures.whole file place (other_value _ (FolderFault.Damaged file place) is))
+
+pub returns-then-is_err-clause-calls : goal.returns-then-is_err-clause-calls
+returns-then-is_err-clause-calls g c =
+    let f0 = g.H.Host.faults c.args.host.now in
+    let f1 = g.H.Host.faults c.close_gate.new.host in
+    record {
+      ready = c.close_gate.ensures.ready;
+      calm = tt;
+      fault = subst (λ (e : FolderFault). ReadFaulted e f0 f1) (sym c.manager_fault.ensures) (c.close_gate.ensures.faults.cause (search rules));
+    }
+
+pub returns-then-is_err-2-clause-calls : goal.returns-then-is_err-2-clause-calls
+returns-then-is_err-2-clause-calls g c =
+    let f0 = g.H.Host.faults c.args.host.now in
+    let f1 = g.H.Host.faults c.close_gate.new.host in
+    let f2 = g.H.Host.faults c.write_program.new.host in
+    let calm1 : NoneFailed f0 f1 = c.close_gate.ensures.faults.calm (search rules) in
+    record {
+      ready = λ file was. c.write_program.ensures.ready file (c.close_gate.ensures.ready file was);
+      calm = tt;
+      fault = faulted_before (FolderFault.Failed (ProgramFile (1 - c.args.next.live))) f0 f1 f2 calm1 (c.write_program.ensures.faults.cause (search rules));
+    }
+
+pub returns-in_err-copy_versions-clause-calls : goal.returns-in_err-copy_versions-clause-calls
+returns-in_err-copy_versions-clause-calls g c =
+    let p = err_from_is_err_and c.from_residual.result c.from_residual.ensures.1 in
+    let f0 = g.H.Host.faults c.args.host.now in
+    let f1 = g.H.Host.faults c.close_gate.new.host in
+    let f2 = g.H.Host.faults c.write_program.new.host in
+    let f3 = g.H.Host.faults c.copy_versions.new.host in
+    let calm1 : NoneFailed f0 f1 = c.close_gate.ensures.faults.calm (search rules) in
+    let calm2 : NoneFailed f0 f2 = calm_then f0 f1 f2 calm1 (c.write_program.ensures.faults.calm (search rules)) in
+    rw (p.1, p.2) (record {
+      ready = λ file was. c.copy_versions.ensures.calls.ready file (c.write_program.ensures.ready file (c.close_gate.ensures.ready file was));
+      calm = tt;
+      fault = faulted_before c.in_err-copy_versions.field-0.0 f0 f2 f3 calm2 c.in_err-copy_versions.ensures.calls.fault;
+    })
+
+pub returns-in_err-write_pieces-clause-calls : goal.returns-in_err-write_pieces-clause-calls
+returns-in_err-write_pieces-clause-calls g c =
+    let p = err_from_is_err_and c.from_residual-in_err-write_pieces.result c.from_residual-in_err-write_pieces.ensures.1 in
+    let f0 = g.H.Host.faults c.args.host.now in
+    let f1 = g.H.Host.faults c.close_gate.new.host in
+    let f2 = g.H.Host.faults c.write_program.new.host in
+    let f3 = g.H.Host.faults c.copy_versions.new.host in
+    let f4 = g.H.Host.faults c.write_pieces.new.host in
+    let calm1 : NoneFailed f0 f1 = c.close_gate.ensures.faults.calm (search rules) in
+    let calm2 : NoneFailed f0 f2 = calm_then f0 f1 f2 calm1 (c.write_program.ensures.faults.calm (search rules)) in
+    let calm3 : NoneFailed f0 f3 = calm_then f0 f2 f3 calm2 c.in_ok-copy_versions.ensures.calls.calm in
+    rw (p.1, p.2) (record {
+      ready = λ file was. c.write_pieces.ensures.calls.ready file (c.copy_versions.ensures.calls.ready file (c.write_program.ensures.ready file (c.close_gate.ensures.ready file was)));
+      calm = tt;
+      fault = faulted_before c.in_err-write_pieces.field-0.0 f0 f3 f4 calm3 c.in_err-write_pieces.ensures.calls.fault;
+    })
+
+pub returns-clause-calls : goal.returns-clause-calls
+returns-clause-calls g c =
+    let f0 = g.H.Host.faults c.args.host.now in
+    let f1 = g.H.Host.faults c.close_gate.new.host in
+    let f2 = g.H.Host.faults c.write_program.new.host in
+    let f3 = g.H.Host.faults c.copy_versions.new.host in
+    let f4 = g.H.Host.faults c.write_pieces.new.host in
+    let f5 = g.H.Host.faults c.open_gate.new.host in
+    let calm1 : NoneFailed f0 f1 = c.close_gate.ensures.faults.calm (search rules) in
+    let calm2 : NoneFailed f0 f2 = calm_then f0 f1 f2 calm1 (c.write_program.ensures.faults.calm (search rules)) in
+    let calm3 : NoneFailed f0 f3 = calm_then f0 f2 f3 calm2 c.in_ok-copy_versions.ensures.calls.calm in
+    let calm4 : NoneFailed f0 f4 = calm_then f0 f3 f4 calm3 c.in_ok-write_pieces.ensures.calls.calm in
+    record {
+      ready = λ file was. c.open_gate.ensures.ready file (c.write_pieces.ensures.calls.ready file (c.copy_versions.ensures.calls.ready file (c.write_program.ensures.ready file (c.close_gate.ensures.ready file was))));
+      calm = calm_then f0 f4 f5 calm4 (c.open_gate.ensures.faults.calm (search rules));
+      fault = tt;
+    }

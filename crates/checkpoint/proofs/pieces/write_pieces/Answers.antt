@@ -15,6 +15,9 @@ use Rattle.checkpoint.specs.Pieces.{spelled_with, front_bodies}
 use Rattle.checkpoint.proofs.Writing.{whole_pieces}
 use Rattle.checkpoint.proofs.pieces.write_pieces.Goals as goal
 
+pub returns-in_err-at-clause-run : goal.returns-in_err-at-clause-run
+returns-in_err-at-clause-run g c told = run_more_syncs (Manager c.args.slot) KeepsGate 0 1 _ _ (omega arith) (c.put_header.ensures.run told)
+
 pub returns-in_err-front-clause-run : goal.returns-in_err-front-clause-run
 returns-in_err-front-clause-run g c told =
     run_more_syncs (Manager c.args.slot) KeepsGate 0 1 _ _ (omega arith) (run_then (Manager c.args.slot) KeepsGate KeepsGate 0 0 _ _ _ (λ e d k one two. two ∙ one) (c.put_header.ensures.run told) (c.put_front.ensures.run told))

@@ -1,5 +1,6 @@
 use Rattle.std.proofs.Common.{◌≡◌, ◌+◌, ◌%◌, if◌then◌else◌, arith, ◌∙◌, refl, sym, subst, length, false}
 use Rattle.std.specs.Prelude.{is_some}
+use Rattle.std.proofs.lemmas.Result.{err_from_is_err_and}
 use Rattle.core_model.specs.LockAnswers.{IsGoing}
 use Rattle.core_model.specs.LegalRuns.{ends}
 use Rattle.core_model.specs.Settler.{has_step, settler_step}
@@ -129,3 +130,78 @@ pub returns-in-At-2-clause-within : goal.returns-in-At-2-clause-within
 returns-in-At-2-clause-within c =
     within-new c.find-2.new.self.list.items c.find.new.self.list.items c.in-At-2.index c.in_ok-index-2.ensures.units
     (subst (λ (f : Found). FindsWithin f (length c.find.new.self.list.items)) c.in-At-2.is c.in_ok-index-2.ensures.within)
+
+pub returns-in_err-index-clause-carried : goal.returns-in_err-index-clause-carried
+returns-in_err-index-clause-carried c = let q = err_from_is_err_and c.from_residual.result c.from_residual.ensures.1 in rw q.1 tt
+
+pub returns-in_err-index-clause-units : goal.returns-in_err-index-clause-units
+returns-in_err-index-clause-units c = let q = err_from_is_err_and c.from_residual.result c.from_residual.ensures.1 in rw q.1 tt
+
+pub returns-in_err-index-clause-within : goal.returns-in_err-index-clause-within
+returns-in_err-index-clause-within c = let q = err_from_is_err_and c.from_residual.result c.from_residual.ensures.1 in rw q.1 tt
+
+pub returns-in_err-index-clause-freed : goal.returns-in_err-index-clause-freed
+returns-in_err-index-clause-freed c = let q = err_from_is_err_and c.from_residual.result c.from_residual.ensures.1 in rw q.1 tt
+
+pub returns-in_err-index-clause-mover : goal.returns-in_err-index-clause-mover
+returns-in_err-index-clause-mover c = λ d h. let q = err_from_is_err_and c.from_residual.result c.from_residual.ensures.1 in rw q.1 tt
+
+pub returns-in_err-index-2-clause-carried : goal.returns-in_err-index-2-clause-carried
+returns-in_err-index-2-clause-carried c = let q = err_from_is_err_and c.from_residual-in_err-index-2.result c.from_residual-in_err-index-2.ensures.1 in rw q.1 tt
+
+pub returns-in_err-index-2-clause-units : goal.returns-in_err-index-2-clause-units
+returns-in_err-index-2-clause-units c = let q = err_from_is_err_and c.from_residual-in_err-index-2.result c.from_residual-in_err-index-2.ensures.1 in rw q.1 tt
+
+pub returns-in_err-index-2-clause-within : goal.returns-in_err-index-2-clause-within
+returns-in_err-index-2-clause-within c = let q = err_from_is_err_and c.from_residual-in_err-index-2.result c.from_residual-in_err-index-2.ensures.1 in rw q.1 tt
+
+pub returns-in_err-index-2-clause-freed : goal.returns-in_err-index-2-clause-freed
+returns-in_err-index-2-clause-freed c = let q = err_from_is_err_and c.from_residual-in_err-index-2.result c.from_residual-in_err-index-2.ensures.1 in rw q.1 tt
+
+pub returns-in_err-index-2-clause-mover : goal.returns-in_err-index-2-clause-mover
+returns-in_err-index-2-clause-mover c = λ d h. let q = err_from_is_err_and c.from_residual-in_err-index-2.result c.from_residual-in_err-index-2.ensures.1 in rw q.1 tt
+
+pub returns-in-At-clause-carried : goal.returns-in-At-clause-carried
+returns-in-At-clause-carried c = c.in_ok-index.ensures.carried
+
+pub returns-in-At-clause-units : goal.returns-in-At-clause-units
+returns-in-At-clause-units c = c.find.ensures.units
+
+pub returns-in-At-clause-freed : goal.returns-in-At-clause-freed
+returns-in-At-clause-freed c = c.find.ensures.freed
+
+pub returns-then-movers-eq0-clause-carried : goal.returns-then-movers-eq0-clause-carried
+returns-then-movers-eq0-clause-carried c = c.in_ok-index.ensures.carried
+
+pub returns-then-movers-eq0-clause-units : goal.returns-then-movers-eq0-clause-units
+returns-then-movers-eq0-clause-units c = c.find.ensures.units
+
+pub returns-then-movers-eq0-clause-freed : goal.returns-then-movers-eq0-clause-freed
+returns-then-movers-eq0-clause-freed c = c.find.ensures.freed
+
+pub returns-then-place-units-clause-carried : goal.returns-then-place-units-clause-carried
+returns-then-place-units-clause-carried c = c.in_ok-index.ensures.carried
+
+pub returns-then-place-units-clause-units : goal.returns-then-place-units-clause-units
+returns-then-place-units-clause-units c = c.find.ensures.units
+
+pub returns-then-place-units-clause-freed : goal.returns-then-place-units-clause-freed
+returns-then-place-units-clause-freed c = c.find.ensures.freed
+
+pub returns-in-At-2-clause-carried : goal.returns-in-At-2-clause-carried
+returns-in-At-2-clause-carried c = c.in_ok-index-2.ensures.carried
+
+pub returns-in-At-2-clause-units : goal.returns-in-At-2-clause-units
+returns-in-At-2-clause-units c = c.find-2.ensures.units ∙ c.find.ensures.units
+
+pub returns-in-At-2-clause-freed : goal.returns-in-At-2-clause-freed
+returns-in-At-2-clause-freed c = c.find-2.ensures.freed
+
+pub returns-in-Few-2-clause-carried : goal.returns-in-Few-2-clause-carried
+returns-in-Few-2-clause-carried c = c.in_ok-index-2.ensures.carried
+
+pub returns-in-Few-2-clause-units : goal.returns-in-Few-2-clause-units
+returns-in-Few-2-clause-units c = c.find-2.ensures.units ∙ c.find.ensures.units
+
+pub returns-in-Few-2-clause-freed : goal.returns-in-Few-2-clause-freed
+returns-in-Few-2-clause-freed c = c.find-2.ensures.freed

@@ -41,8 +41,7 @@ loop-turn-init g c = record {
   turns = omega arith;
   unused = refl;
   lines = refl;
-  safe = c.requires.safe;
-  ready = λ file was. was;
+  safe = record { safe = c.requires.safe; ready = λ file was. was };
   beside = nothing-beside g.H.Host.tells (run_of c.args.core.now) c.args.settler.now (g.H.Host.faults c.args.host.now) (g.H.Host.world c.args.host.now);
   went = λ o b is can fresh kept.
       let from : TurnStage = (record { at = stage_of g.H.Host.world g.H.Host.faults (run_of c.args.core.now) c.args.settler.now c.args.host.now; agents = []; begun = 0; used = c.args.used.now; pass = no_pass }) in
@@ -105,8 +104,7 @@ loop-turn-preserved g c = record {
   turns = c.in_ok-turn.ensures.goes c.if-not-branch.false ∙ ap (λ (n : ℕ). n + 1) c.loop-turn.invariant.turns;
   unused = c.loop-turn.invariant.unused;
   lines = c.turn.ensures.same ∙ c.loop-turn.invariant.lines;
-  safe = c.turn.ensures.safe;
-  ready = λ file was. c.turn.ensures.ready file (c.loop-turn.invariant.ready file was);
+  safe = record { safe = c.turn.ensures.safe.safe; ready = λ file was. c.turn.ensures.safe.ready file (c.loop-turn.invariant.safe.ready file was) };
   beside = one-after-another g.H.Host.tells (run_of c.args.core.now) (run_of c.loop-turn.core) (run_of c.turn.new.core) c.args.settler.now c.loop-turn.settler c.turn.new.settler
       (g.H.Host.faults c.args.host.now) (g.H.Host.faults c.loop-turn.host) (g.H.Host.faults c.turn.new.host) (g.H.Host.world c.args.host.now) (g.H.Host.world c.loop-turn.host) (g.H.Host.world c.turn.new.host) true (Ok true) c.loop-turn.invariant.beside
       (beside-well g.H.Host.tells (run_of c.loop-turn.core) (run_of c.turn.new.core) c.loop-turn.settler c.turn.new.settler (g.H.Host.faults c.loop-turn.host) (g.H.Host.faults c.turn.new.host) (g.H.Host.world c.loop-turn.host) (g.H.Host.world c.turn.new.host) c.in_ok-turn.field-0 (Ok true)
@@ -132,3 +130,42 @@ returns-clause-carries g c = record {
 
 pub returns-clause-unused : goal.returns-clause-unused
 returns-clause-unused g c = c.loop-turn.invariant.unused
+
+pub returns-in_err-shape-clause-used : goal.returns-in_err-shape-clause-used
+returns-in_err-shape-clause-used g c = λ o b is can fresh kept ruled. let q = err_from_is_err_and c.from_residual.result c.from_residual.ensures.1 in rw q.1 tt
+
+pub returns-in_err-shape-clause-safe : goal.returns-in_err-shape-clause-safe
+returns-in_err-shape-clause-safe g c = record { safe = c.requires.safe; ready = λ file was. was }
+
+pub returns-in_err-turn-clause-used : goal.returns-in_err-turn-clause-used
+returns-in_err-turn-clause-used g c = λ o b is can fresh kept ruled. let q = err_from_is_err_and c.from_residual-in_err-turn.result c.from_residual-in_err-turn.ensures.1 in rw q.1 tt
+
+pub returns-in_err-turn-clause-same : goal.returns-in_err-turn-clause-same
+returns-in_err-turn-clause-same g c = c.turn.ensures.same ∙ c.loop-turn.invariant.lines
+
+pub returns-in_err-turn-clause-safe : goal.returns-in_err-turn-clause-safe
+returns-in_err-turn-clause-safe g c = record { safe = c.turn.ensures.safe.safe; ready = λ file was. c.turn.ensures.safe.ready file (c.loop-turn.invariant.safe.ready file was) }
+
+pub returns-then-not-branch-clause-same : goal.returns-then-not-branch-clause-same
+returns-then-not-branch-clause-same g c = c.turn.ensures.same ∙ c.loop-turn.invariant.lines
+
+pub returns-then-not-branch-clause-safe : goal.returns-then-not-branch-clause-safe
+returns-then-not-branch-clause-safe g c = record { safe = c.turn.ensures.safe.safe; ready = λ file was. c.turn.ensures.safe.ready file (c.loop-turn.invariant.safe.ready file was) }
+
+pub returns-clause-used : goal.returns-clause-used
+returns-clause-used g c = λ o b is can fresh kept ruled. tt
+
+pub returns-clause-same : goal.returns-clause-same
+returns-clause-same g c = c.loop-turn.invariant.lines
+
+pub returns-clause-safe : goal.returns-clause-safe
+returns-clause-safe g c = c.loop-turn.invariant.safe
+
+pub turn-requires-clause-units : goal.turn-requires-clause-units
+turn-requires-clause-units g c = c.loop-turn.invariant.units
+
+pub turn-requires-clause-shape : goal.turn-requires-clause-shape
+turn-requires-clause-shape g c = c.loop-turn.invariant.shape
+
+pub turn-requires-clause-safe : goal.turn-requires-clause-safe
+turn-requires-clause-safe g c = c.loop-turn.invariant.safe.safe

@@ -27,10 +27,10 @@ use Rattle.log_audit.proofs.RereadRefusals.{refused_again}
 use Rattle.log_audit.proofs.audits.audit.Goals as goal
 
 pub replay_log-requires-clause-shape : goal.replay_log-requires-clause-shape
-replay_log-requires-clause-shape g c = c.in-Ok-first.ensures.shaped
+replay_log-requires-clause-shape g c = c.in-Ok-first_of.ensures.shaped
 
-pub first-requires : goal.first-requires
-first-requires g c = record { some = some_program c.in-Ok.opened c.in-Ok.ensures.bounds.programs }
+pub first_of-requires : goal.first_of-requires
+first_of-requires g c = record { some = some_program c.in-Ok.opened c.in-Ok.ensures.bounds.programs }
 
 pub returns-in-Ok-replay_log-clause-audited : goal.returns-in-Ok-replay_log-clause-audited
 returns-in-Ok-replay_log-clause-audited g c told =
@@ -40,7 +40,7 @@ returns-in-Ok-replay_log-clause-audited g c told =
     let image = seen_in old.disk in
     let o = (c.in-Ok.ensures.opened told).opened in
     let same : seen_in mid.disk ≡ image = opens_same _ old mid (c.in-Ok.ensures.only told) in
-    let typed = first_types o.first o.read.entries (programs_of opened) (types_in_force c.in-Ok-first.first) o.programs c.in-Ok-first.ensures.same in
+    let typed = first_types o.first o.read.entries (programs_of opened) (types_in_force c.in-Ok-first_of.first) o.programs c.in-Ok-first_of.ensures.same in
     let read : log_in_file Two o.first ((mid.disk (Manager opened.slot)).seen) ≡ Ok o.read = (λ i. log_in_file Two o.first (same i (Manager opened.slot))) ∙ o.read_as in
     let bad = c.in-Ok-replay_log.first_bad in
     let first : IsFirstFailure (log_of Two opened.slot o.first image o.read).base (log_of Two opened.slot o.first image o.read).entries bad =
@@ -84,7 +84,7 @@ returns-clause-refused g c told =
     let image = seen_in old.disk in
     let o = (c.in-Ok.ensures.opened told).opened in
     let same : seen_in mid.disk ≡ image = opens_same _ old mid (c.in-Ok.ensures.only told) in
-    let typed = first_types o.first o.read.entries (programs_of opened) (types_in_force c.in-Ok-first.first) o.programs c.in-Ok-first.ensures.same in
+    let typed = first_types o.first o.read.entries (programs_of opened) (types_in_force c.in-Ok-first_of.first) o.programs c.in-Ok-first_of.ensures.same in
     let read : log_in_file Two o.first ((mid.disk (Manager opened.slot)).seen) ≡ Ok o.read = (λ i. log_in_file Two o.first (same i (Manager opened.slot))) ∙ o.read_as in
     let fault = c.in-Err-replay_log.fault in
     let again : IsRereadFault opened.slot o.first image o.read fault = subst (λ (im : Image). IsRereadFault opened.slot o.first im o.read fault) same (c.in-Err-replay_log.ensures.unread told o.first typed o.read read) in

@@ -24,10 +24,13 @@ returns-in-Ok-clause-audits g c told manner asked =
     subst (λ (n : ℕ). PutsPart (line_of (audit_data n unit)) (is_ok c.write_audit.result) mid new) a.count (c.write_audit.ensures.puts told) in
     let live = reads_is_live Two (seen_in old.disk) a.live a.log a.reads in
     inr (is_audited a.live old mid (c.in-Ok.ensures.settled told a.live live) (c.in-Ok.ensures.only told) unit a.log manner asked new (g.H.Host.faults c.args.host.now) (g.H.Host.faults c.write_audit.new.host) c.write_audit.result
-    a.reads part c.write_audit.ensures.ended (failed_then _ _ _ _ c.in-Ok.ensures.calls.calm c.write_audit.ensures.exact) (first_is a.log report.first_bad a.first))
+    a.reads part c.write_audit.ensures.ended (failed_then _ _ _ _ c.in-Ok.ensures.calls.calm c.write_audit.ensures.calls.exact) (first_is a.log report.first_bad a.first))
 
-pub returns-in-Ok-clause-exact : goal.returns-in-Ok-clause-exact
-returns-in-Ok-clause-exact g c = failed_then _ _ _ _ c.in-Ok.ensures.calls.calm c.write_audit.ensures.exact
+pub returns-in-Ok-clause-calls : goal.returns-in-Ok-clause-calls
+returns-in-Ok-clause-calls g c = record {
+  exact = failed_then _ _ _ _ c.in-Ok.ensures.calls.calm c.write_audit.ensures.calls.exact;
+  ready = λ file was. c.write_audit.ensures.calls.ready file (c.audit.ensures.calls.ready file was);
+}
 
 pub returns-in-Ok-clause-good : goal.returns-in-Ok-clause-good
 returns-in-Ok-clause-good g c = never_bad_use c.write_audit.result
@@ -37,8 +40,11 @@ returns-in-Err-clause-audits g c told manner asked =
     inl (not_opened {A = Unit {0}} manner asked (g.H.Host.world c.args.host.now) (g.H.Host.world c.audit.new.host) (g.H.Host.faults c.args.host.now) (g.H.Host.faults c.audit.new.host) (Err c.unopened.result) c.in-Err.fault c.unopened.ensures
     (c.in-Err.ensures.only told) (c.in-Err.ensures.refused told) c.in-Err.ensures.calls.fault)
 
-pub returns-in-Err-clause-exact : goal.returns-in-Err-clause-exact
-returns-in-Err-clause-exact g c = subst (λ (e : Ending). HasFailedAs e (g.H.Host.faults c.args.host.now) (g.H.Host.faults c.audit.new.host)) (sym c.unopened.ensures) (open_failed _ _ c.in-Err.fault c.in-Err.ensures.calls.fault)
+pub returns-in-Err-clause-calls : goal.returns-in-Err-clause-calls
+returns-in-Err-clause-calls g c = record {
+  exact = subst (λ (e : Ending). HasFailedAs e (g.H.Host.faults c.args.host.now) (g.H.Host.faults c.audit.new.host)) (sym c.unopened.ensures) (open_failed _ _ c.in-Err.fault c.in-Err.ensures.calls.fault);
+  ready = c.audit.ensures.calls.ready;
+}
 
 pub returns-in-Err-clause-good : goal.returns-in-Err-clause-good
 returns-in-Err-clause-good g c = never_bad_use {A = Unit {0}} (Err c.unopened.result)

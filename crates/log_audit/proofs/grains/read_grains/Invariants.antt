@@ -8,15 +8,15 @@ use Rattle.log_audit.specs.InForce.{types_in_force, HasShape}
 use Rattle.log_audit.proofs.GrainLists.{HasGrains}
 use Rattle.log_audit.proofs.grains.read_grains.Given as goal
 
-abbrev pub invariant-loop-now : goal.invariant-loop-now
-invariant-loop-now g l = record {
+abbrev pub invariant-loop-grains : goal.invariant-loop-grains
+invariant-loop-grains g l = record {
   bound : l.gate_at < 2 ^ 63;
   shaped : HasShape l.now;
-  has : IsTrue g.H.Host.tells → (p : Program) → p.types ≡ types_in_force l.fn.first → HasGrains p ((g.H.Host.world l.fn.host).disk (Manager l.slot)).seen l.last l.gate_at (types_in_force l.now) l.grains.keys;
+  has : IsTrue g.H.Host.tells → (p : Program) → p.types ≡ types_in_force l.fn.now → HasGrains p ((g.H.Host.world l.fn.host).disk (Manager l.slot)).seen l.last l.gate_at (types_in_force l.now) l.grains.keys;
   asked : IsTrue g.H.Host.tells → OnlyAsked (g.H.Host.world l.fn.host) (g.H.Host.world l.host);
   calm : NoneFailed (g.H.Host.faults l.fn.host) (g.H.Host.faults l.host);
   ready : StaysReady (g.H.Host.is_ready l.fn.host) (g.H.Host.is_ready l.host);
 }
 
-abbrev pub decreases-loop-now : goal.decreases-loop-now
-decreases-loop-now g l = 2 ^ 63 - l.gate_at
+abbrev pub decreases-loop-grains : goal.decreases-loop-grains
+decreases-loop-grains g l = 2 ^ 63 - l.gate_at

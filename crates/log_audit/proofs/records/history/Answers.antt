@@ -26,10 +26,13 @@ returns-in-Ok-clause-reports g c told manner asked =
     let first : program_in_file (seen_in old.disk (ProgramFile opened.slot)) ≡ Ok o.first = ap (λ (image : Image). program_in_file (image (ProgramFile opened.slot))) (sym same) ∙ o.first_is in
     inr (is_history opened.slot old mid (c.in-Ok.ensures.opened told).settled run (sessions (seen_in mid.disk)) o.log manner asked (g.H.Host.world c.write_history.new.host) (g.H.Host.faults c.args.host.now) (g.H.Host.faults c.write_history.new.host) c.write_history.result
     (ap (λ (image : Image). opened_as image) (sym same) ∙ o.reads) (c.write_history.ensures.puts told o) (c.write_history.ensures.ended told o)
-    (failed_then _ _ _ _ c.in-Ok.ensures.calls.calm c.write_history.ensures.exact) o.first first (ap sessions same))
+    (failed_then _ _ _ _ c.in-Ok.ensures.calls.calm c.write_history.ensures.calls.exact) o.first first (ap sessions same))
 
-pub returns-in-Ok-clause-exact : goal.returns-in-Ok-clause-exact
-returns-in-Ok-clause-exact g c = failed_then _ _ _ _ c.in-Ok.ensures.calls.calm c.write_history.ensures.exact
+pub returns-in-Ok-clause-calls : goal.returns-in-Ok-clause-calls
+returns-in-Ok-clause-calls g c = record {
+  exact = failed_then _ _ _ _ c.in-Ok.ensures.calls.calm c.write_history.ensures.calls.exact;
+  ready = λ file was. c.write_history.ensures.calls.ready file (c.open_silo.ensures.calls.ready file was);
+}
 
 pub returns-in-Ok-clause-good : goal.returns-in-Ok-clause-good
 returns-in-Ok-clause-good g c = never_bad_use c.write_history.result
@@ -39,8 +42,11 @@ returns-in-Err-clause-reports g c told manner asked =
     inl (not_opened {A = Unit {0}} manner asked (g.H.Host.world c.args.host.now) (g.H.Host.world c.open_silo.new.host) (g.H.Host.faults c.args.host.now) (g.H.Host.faults c.open_silo.new.host) (Err c.unopened.result) c.in-Err.fault c.unopened.ensures
     (c.in-Err.ensures.only told) (c.in-Err.ensures.refused told) c.in-Err.ensures.calls.fault)
 
-pub returns-in-Err-clause-exact : goal.returns-in-Err-clause-exact
-returns-in-Err-clause-exact g c = subst (λ (e : Ending). HasFailedAs e (g.H.Host.faults c.args.host.now) (g.H.Host.faults c.open_silo.new.host)) (sym c.unopened.ensures) (open_failed _ _ c.in-Err.fault c.in-Err.ensures.calls.fault)
+pub returns-in-Err-clause-calls : goal.returns-in-Err-clause-calls
+returns-in-Err-clause-calls g c = record {
+  exact = subst (λ (e : Ending). HasFailedAs e (g.H.Host.faults c.args.host.now) (g.H.Host.faults c.open_silo.new.host)) (sym c.unopened.ensures) (open_failed _ _ c.in-Err.fault c.in-Err.ensures.calls.fault);
+  ready = c.open_silo.ensures.calls.ready;
+}
 
 pub returns-in-Err-clause-good : goal.returns-in-Err-clause-good
 returns-in-Err-clause-good g c = never_bad_use {A = Unit {0}} (Err c.unopened.result)

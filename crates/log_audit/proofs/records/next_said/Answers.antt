@@ -19,5 +19,8 @@ returns-in-Err-clause-unread g c told =
     subst (λ (e : ReportFault). IsBlockFault types c.args.session c.args.gate_at file e) (sym c.unread.ensures)
     (block_fault types file c.args.session c.args.gate_at c.in-Err.fault (λ at place is. c.in-Err.ensures.damaged at place is told))
 
-pub returns-in-Err-clause-exact : goal.returns-in-Err-clause-exact
-returns-in-Err-clause-exact g c = subst (λ (e : ReportFault). HasFailedAs (fault_ending e) (g.H.Host.faults c.args.host.now) (g.H.Host.faults c.next_entry.new.host)) (sym c.unread.ensures) (folder_failed _ _ c.in-Err.fault c.in-Err.ensures.calls.fault)
+pub returns-in-Err-clause-calls : goal.returns-in-Err-clause-calls
+returns-in-Err-clause-calls g c = record {
+  exact = subst (λ (e : ReportFault). HasFailedAs (fault_ending e) (g.H.Host.faults c.args.host.now) (g.H.Host.faults c.next_entry.new.host)) (sym c.unread.ensures) (folder_failed _ _ c.in-Err.fault c.in-Err.ensures.calls.fault);
+  ready = c.next_entry.ensures.calls.ready;
+}

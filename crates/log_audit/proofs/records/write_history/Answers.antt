@@ -13,8 +13,8 @@ use Rattle.log_audit.proofs.ReadEntries.{some_program, first_types}
 use Rattle.log_audit.proofs.ReportTexts.{history_opened}
 use Rattle.log_audit.proofs.records.write_history.Goals as goal
 
-pub first-requires : goal.first-requires
-first-requires g c = record { some = some_program c.args.opened c.requires.programs }
+pub first_of-requires : goal.first_of-requires
+first_of-requires g c = record { some = some_program c.args.opened c.requires.programs }
 
 pub returns-in_err-first-clause-puts : goal.returns-in_err-first-clause-puts
 returns-in_err-first-clause-puts g c =

@@ -35,10 +35,13 @@ returns-in_err-write_line-clause-puts g c =
     (ap (λ (l : List CommitRecord). record_lines shape types c.args.session l) (next_item i xs x c.loop-entry-test.true c.entry-item.is))
     (subst (λ (l : List ℕ). PutsPart l false (g.H.Host.world c.loop-entry.host) (g.H.Host.world c.write_line.new.host)) text (c.in_err-write_line.ensures.puts told))
 
-pub returns-in_err-write_line-clause-exact : goal.returns-in_err-write_line-clause-exact
-returns-in_err-write_line-clause-exact g c =
+pub returns-in_err-write_line-clause-calls : goal.returns-in_err-write_line-clause-calls
+returns-in_err-write_line-clause-calls g c =
     let p = err_from_is_err_and c.from_residual-in_err-write_line.result c.from_residual-in_err-write_line.ensures.1 in
-    rw (p.1, p.2) (failed_then _ _ _ _ c.loop-entry.invariant.calm c.in_err-write_line.ensures.exact)
+    rw (p.1, p.2) record {
+      exact = failed_then _ _ _ _ c.loop-entry.invariant.calm c.in_err-write_line.ensures.calls.exact;
+      ready = λ file was. c.write_line.ensures.calls.ready file (c.loop-entry.invariant.ready file was);
+    }
 
 pub loop-entry-preserved : goal.loop-entry-preserved
 loop-entry-preserved g c =
@@ -54,8 +57,8 @@ loop-entry-preserved g c =
           gone_more _ _ _ (line_of (record_data shape types c.args.session x)) (record_lines shape types c.args.session (drop (i + 1) xs)) _ _ (inv.puts told)
           (ap (λ (l : List CommitRecord). record_lines shape types c.args.session l) (next_item i xs x c.loop-entry-test.true c.entry-item.is))
           (subst (λ (l : List ℕ). PutsPart l true (g.H.Host.world c.loop-entry.host) (g.H.Host.world c.write_line.new.host)) text (c.in_ok-write_line.ensures.puts told));
-      calm = none_then _ _ _ inv.calm c.in_ok-write_line.ensures.exact;
-      ready = λ file was. c.write_line.ensures.ready file (inv.ready file was);
+      calm = none_then _ _ _ inv.calm c.in_ok-write_line.ensures.calls.exact;
+      ready = λ file was. c.write_line.ensures.calls.ready file (inv.ready file was);
     }
 
 pub returns-clause-puts : goal.returns-clause-puts

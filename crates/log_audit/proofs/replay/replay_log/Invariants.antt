@@ -10,16 +10,16 @@ use Rattle.log_audit.specs.CarriedStores.{StoreFits}
 use Rattle.log_audit.proofs.Replays.{HasAudited}
 use Rattle.log_audit.proofs.replay.replay_log.Given as goal
 
-abbrev pub invariant-loop-now : goal.invariant-loop-now
-invariant-loop-now g l = record {
+abbrev pub invariant-loop-store : goal.invariant-loop-store
+invariant-loop-store g l = record {
   bound : l.gate_at < 2 ^ 63;
   shaped : HasShape l.now;
   fits : StoreFits (types_in_force l.now) l.store;
-  audited : IsTrue g.H.Host.tells → (p : Program) → p.types ≡ types_in_force l.fn.first → HasAudited p l.slot (seen_in (g.H.Host.world l.fn.host).disk) ((g.H.Host.world l.fn.host).disk (Manager l.slot)).seen l.last l.gate_at (types_in_force l.now) l.store;
+  audited : IsTrue g.H.Host.tells → (p : Program) → p.types ≡ types_in_force l.fn.now → HasAudited p l.slot (seen_in (g.H.Host.world l.fn.host).disk) ((g.H.Host.world l.fn.host).disk (Manager l.slot)).seen l.last l.gate_at (types_in_force l.now) l.store;
   asked : IsTrue g.H.Host.tells → OnlyAsked (g.H.Host.world l.fn.host) (g.H.Host.world l.host);
   calm : NoneFailed (g.H.Host.faults l.fn.host) (g.H.Host.faults l.host);
   ready : StaysReady (g.H.Host.is_ready l.fn.host) (g.H.Host.is_ready l.host);
 }
 
-abbrev pub decreases-loop-now : goal.decreases-loop-now
-decreases-loop-now g l = 2 ^ 63 - l.gate_at
+abbrev pub decreases-loop-store : goal.decreases-loop-store
+decreases-loop-store g l = 2 ^ 63 - l.gate_at

@@ -1,10 +1,13 @@
-use Rattle.std.proofs.Common.{◌≡◌, List, map, sym, ◌∙◌, ap, subst}
+use Rattle.std.proofs.Common.{◌≡◌, List, map, refl, sym, ◌∙◌, ap, subst}
 use Rattle.std.proofs.lemmas.Result.{err_from_is_err_and}
 use Rattle.base_types.specs.declared.shapes.Shape.{Shape}
+use Rattle.base_types.specs.declared.stores.Store.{Store}
+use Rattle.base_types.specs.Stores.{state_in}
 use Rattle.field_codec.specs.declared.formats.Format.TheVariants.{Two}
 use Rattle.commit_log.specs.declared.records.CommitRecord.{CommitRecord}
 use Rattle.log_reading.specs.Entries.{entry_said}
 use Rattle.log_reading.specs.declared.bodies.Said.{Said}
+use Rattle.log_reading.specs.declared.faults.FolderFault.{FolderFault}
 use Rattle.log_reading.specs.Blocks.{ReadRecord, entries_said}
 use Rattle.log_reading.specs.Steps.{seen_in}
 use Rattle.script_tree.specs.Programs.{ProgramTree, program_tree}
@@ -36,6 +39,16 @@ returns-in_err-found-in-Records-clause-unread g c =
 pub carry_store-requires-clause-follows : goal.carry_store-requires-clause-follows
 carry_store-requires-clause-follows g c = follows_on_from (types_in_force c.args.now.now) c.args.said _ c.in-Upgrade.checked c.in-Upgrade.is c.requires.may
 
+pub returns-in_err-carried-in-Upgrade-clause-unread : goal.returns-in_err-carried-in-Upgrade-clause-unread
+returns-in_err-carried-in-Upgrade-clause-unread g c =
+    let r = err_from_is_err_and c.from_residual-in_err-carried-in-Upgrade.result c.from_residual-in_err-carried-in-Upgrade.ensures.1 in
+    rw (r.1, r.2) λ told p typed. subst (λ (s : Said). IsEntryFault c.args.slot p (seen_in (g.H.Host.world c.args.host.now).disk) (entries_said (entry_said s)) FolderFault.Memory) (sym c.in-Upgrade.is) refl
+
+pub returns-in_err-change_to-in-Upgrade-clause-unread : goal.returns-in_err-change_to-in-Upgrade-clause-unread
+returns-in_err-change_to-in-Upgrade-clause-unread g c =
+    let r = err_from_is_err_and c.from_residual-in_err-change_to-in-Upgrade.result c.from_residual-in_err-change_to-in-Upgrade.ensures.1 in
+    rw (r.1, r.2) λ told p typed. subst (λ (s : Said). IsEntryFault c.args.slot p (seen_in (g.H.Host.world c.args.host.now).disk) (entries_said (entry_said s)) FolderFault.Memory) (sym c.in-Upgrade.is) refl
+
 pub returns-in_ok-found-in-Records-clause-replays : goal.returns-in_ok-found-in-Records-clause-replays
 returns-in_ok-found-in-Records-clause-replays g c told before program has =
     let now = c.args.now.now in
@@ -51,18 +64,18 @@ returns-in_ok-found-in-Records-clause-replays g c told before program has =
 pub returns-in_ok-found-in-Records-clause-fits : goal.returns-in_ok-found-in-Records-clause-fits
 returns-in_ok-found-in-Records-clause-fits g c = c.in_ok-found-in-Records.ensures.fits c.requires.fits
 
-pub returns-in_ok-next-in-Upgrade-clause-replays : goal.returns-in_ok-next-in-Upgrade-clause-replays
-returns-in_ok-next-in-Upgrade-clause-replays g c told before program has =
+pub returns-in_ok-change_to-in-Upgrade-clause-replays : goal.returns-in_ok-change_to-in-Upgrade-clause-replays
+returns-in_ok-change_to-in-Upgrade-clause-replays g c told before program has =
     let store = c.args.store.now in
-    let made = c.in_ok-carried-in-Upgrade.carried in
+    let made = c.replace.new.dest in
     let tree = program_tree c.in-Upgrade.checked in
     replays_upgrade c.args.slot (seen_in (g.H.Host.world c.args.host.now).disk) before store made c.args.said _ c.in-Upgrade.checked c.in-Upgrade.is has
-    (λ grain. c.in_ok-carried-in-Upgrade.ensures grain ∙ ap (λ (t : ProgramTree). carried_in t tree store grain) (sym program))
+    (λ grain. ap (λ (s : Store). state_in s grain) c.replace.ensures.after ∙ c.in_ok-carried-in-Upgrade.ensures grain ∙ ap (λ (t : ProgramTree). carried_in t tree store grain) (sym program))
 
-pub returns-in_ok-next-in-Upgrade-clause-fits : goal.returns-in_ok-next-in-Upgrade-clause-fits
-returns-in_ok-next-in-Upgrade-clause-fits g c =
+pub returns-in_ok-change_to-in-Upgrade-clause-fits : goal.returns-in_ok-change_to-in-Upgrade-clause-fits
+returns-in_ok-change_to-in-Upgrade-clause-fits g c =
     let types = types_in_force c.args.now.now in
     let tree = program_tree c.in-Upgrade.checked in
     let follows = follows_on_from types c.args.said _ c.in-Upgrade.checked c.in-Upgrade.is c.requires.may in
-    subst (λ (t : ProgramTree). StoreFits t c.in_ok-carried-in-Upgrade.carried) (sym c.in_ok-next-in-Upgrade.ensures.same)
-    (carried_fits types tree c.args.store.now c.in_ok-carried-in-Upgrade.carried follows c.requires.fits c.in_ok-carried-in-Upgrade.ensures)
+    subst (λ (t : ProgramTree). StoreFits t c.replace.new.dest) (sym c.in_ok-change_to-in-Upgrade.ensures.same)
+    (carried_fits types tree c.args.store.now c.replace.new.dest follows c.requires.fits (λ grain. ap (λ (s : Store). state_in s grain) c.replace.ensures.after ∙ c.in_ok-carried-in-Upgrade.ensures grain))

@@ -32,10 +32,13 @@ returns-in_err-write_line-clause-puts g c =
     (ap (λ (l : List GrainId). grain_lines shape types store l) c.in-Some.ensures.removal)
     (subst (λ (l : List ℕ). PutsPart l false (g.H.Host.world c.loop-grain.host) (g.H.Host.world c.write_line.new.host)) text (c.in_err-write_line.ensures.puts told))
 
-pub returns-in_err-write_line-clause-exact : goal.returns-in_err-write_line-clause-exact
-returns-in_err-write_line-clause-exact g c =
+pub returns-in_err-write_line-clause-calls : goal.returns-in_err-write_line-clause-calls
+returns-in_err-write_line-clause-calls g c =
     let p = err_from_is_err_and c.from_residual-in_err-write_line.result c.from_residual-in_err-write_line.ensures.1 in
-    rw (p.1, p.2) (failed_then _ _ _ _ c.loop-grain.invariant.calm c.in_err-write_line.ensures.exact)
+    rw (p.1, p.2) record {
+      exact = failed_then _ _ _ _ c.loop-grain.invariant.calm c.in_err-write_line.ensures.calls.exact;
+      ready = λ file was. c.write_line.ensures.calls.ready file (c.loop-grain.invariant.ready file was);
+    }
 
 pub loop-grain-preserved : goal.loop-grain-preserved
 loop-grain-preserved g c =
@@ -50,8 +53,8 @@ loop-grain-preserved g c =
           gone_more _ _ _ (line_of (grain_data shape types grain (found_in types store grain))) (grain_lines shape types store c.pop_first.new.self.keys) _ _ (inv.puts told)
           (ap (λ (l : List GrainId). grain_lines shape types store l) c.in-Some.ensures.removal)
           (subst (λ (l : List ℕ). PutsPart l true (g.H.Host.world c.loop-grain.host) (g.H.Host.world c.write_line.new.host)) text (c.in_ok-write_line.ensures.puts told));
-      calm = none_then _ _ _ inv.calm c.in_ok-write_line.ensures.exact;
-      ready = λ file was. c.write_line.ensures.ready file (inv.ready file was);
+      calm = none_then _ _ _ inv.calm c.in_ok-write_line.ensures.calls.exact;
+      ready = λ file was. c.write_line.ensures.calls.ready file (inv.ready file was);
     }
 
 pub returns-clause-puts : goal.returns-clause-puts

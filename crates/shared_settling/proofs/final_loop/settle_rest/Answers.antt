@@ -22,8 +22,7 @@ loop-step-init g c =
       own = among-none (own_sight (run_of c.args.core.now));
       books = λ o b can rely. settled-none g.H.Host.tells o b c.args.shape.now (own_sight (run_of c.args.core.now)) (own_sight (run_of c.args.core.now)) c.args.settler.now c.args.settler.now (g.H.Host.faults c.args.host.now) (g.H.Host.faults c.args.host.now) (g.H.Host.world c.args.host.now) (g.H.Host.world c.args.host.now) {T = Bool} true can;
       beside = core-beside {T = Bool} g.H.Host.tells (run_seen (own_sight (run_of c.args.core.now))) (run_seen (own_sight (run_of c.args.core.now))) c.args.settler.now (g.H.Host.faults c.args.host.now) (g.H.Host.world c.args.host.now) (Ok true) [] (run-stays (run_seen (own_sight (run_of c.args.core.now))));
-      safe = c.requires.safe;
-      ready = λ file was. was;
+      safe = record { safe = c.requires.safe; ready = λ file was. was };
     }
 
 pub loop-step-preserved : goal.loop-step-preserved
@@ -38,8 +37,7 @@ loop-step-preserved g c =
           (g.H.Host.faults c.args.host.now) (g.H.Host.faults c.loop-step.host) (g.H.Host.faults c.settle_once.new.host)
           (g.H.Host.world c.args.host.now) (g.H.Host.world c.loop-step.host) (g.H.Host.world c.settle_once.new.host)
           c.loop-step.invariant.beside c.settle_once.result (Ok true) (c.in_ok-settle_once.was ∙ ap Ok c.if-not-branch.false) c.settle_once.ensures.leaves.beside);
-      safe = c.settle_once.ensures.safe;
-      ready = λ file was. c.settle_once.ensures.ready file (c.loop-step.invariant.ready file was);
+      safe = record { safe = c.settle_once.ensures.safe.safe; ready = λ file was. c.settle_once.ensures.safe.ready file (c.loop-step.invariant.safe.ready file was) };
     }
 
 pub returns-in_err-settle_once-clause-own : goal.returns-in_err-settle_once-clause-own
@@ -120,3 +118,9 @@ pub returns-clause-beside : goal.returns-clause-beside
 returns-clause-beside g c =
     beside-alone {T = Unit} g.H.Host.tells (run_of c.args.core.now) (run_of c.loop-step.core) c.args.settler.now c.loop-step.settler (g.H.Host.faults c.args.host.now) (g.H.Host.faults c.loop-step.host) (g.H.Host.world c.args.host.now) (g.H.Host.world c.loop-step.host) (Err Memory)
     (beside-well g.H.Host.tells (run_seen (own_sight (run_of c.args.core.now))) (run_seen (own_sight (run_of c.loop-step.core))) c.args.settler.now c.loop-step.settler (g.H.Host.faults c.args.host.now) (g.H.Host.faults c.loop-step.host) (g.H.Host.world c.args.host.now) (g.H.Host.world c.loop-step.host) {T = Bool} {U = Unit} true (Err Memory) c.loop-step.invariant.beside)
+
+pub returns-in_err-settle_once-clause-safe : goal.returns-in_err-settle_once-clause-safe
+returns-in_err-settle_once-clause-safe g c = record { safe = c.settle_once.ensures.safe.safe; ready = λ file was. c.settle_once.ensures.safe.ready file (c.loop-step.invariant.safe.ready file was) }
+
+pub returns-then-not-branch-clause-safe : goal.returns-then-not-branch-clause-safe
+returns-then-not-branch-clause-safe g c = record { safe = c.settle_once.ensures.safe.safe; ready = λ file was. c.settle_once.ensures.safe.ready file (c.loop-step.invariant.safe.ready file was) }

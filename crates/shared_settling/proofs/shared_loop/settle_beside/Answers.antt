@@ -19,8 +19,7 @@ loop-init g c =
       knows = λ truly. truly;
       books = λ o b can rely. settled-none g.H.Host.tells o b c.args.shape.now (g.A.Access.sight c.args.access.now) (g.A.Access.sight c.args.access.now) c.args.settler.now c.args.settler.now (g.H.Host.faults c.args.host.now) (g.H.Host.faults c.args.host.now) (g.H.Host.world c.args.host.now) (g.H.Host.world c.args.host.now) {T = Bool} true can;
       beside = core-beside {T = Bool} g.H.Host.tells (run_seen (g.A.Access.sight c.args.access.now)) (run_seen (g.A.Access.sight c.args.access.now)) c.args.settler.now (g.H.Host.faults c.args.host.now) (g.H.Host.world c.args.host.now) (Ok true) [] (run-stays (run_seen (g.A.Access.sight c.args.access.now)));
-      safe = c.requires.safe;
-      ready = λ file was. was;
+      safe = record { safe = c.requires.safe; ready = λ file was. was };
     }
 
 pub loop-preserved-in-Ok-true : goal.loop-preserved-in-Ok-true
@@ -39,8 +38,7 @@ loop-preserved-in-Ok-true g c =
           (g.H.Host.faults c.args.host.now) (g.H.Host.faults c.loop.host) (g.H.Host.faults c.settle_once.new.host)
           (g.H.Host.world c.args.host.now) (g.H.Host.world c.loop.host) (g.H.Host.world c.settle_once.new.host)
           c.loop.invariant.beside c.settle_once.result (Ok true) (c.in-Ok-true.is ∙ ap Ok c.in-Ok-true.field-0-test) c.settle_once.ensures.leaves.beside);
-      safe = c.settle_once.ensures.safe;
-      ready = λ file was. c.settle_once.ensures.ready file (c.loop.invariant.ready file was);
+      safe = record { safe = c.settle_once.ensures.safe.safe; ready = λ file was. c.settle_once.ensures.safe.ready file (c.loop.invariant.safe.ready file was) };
     }
 
 pub loop-preserved : goal.loop-preserved
@@ -59,8 +57,7 @@ loop-preserved g c =
           (g.H.Host.faults c.args.host.now) (g.H.Host.faults c.loop.host) (g.H.Host.faults c.settle_once.new.host)
           (g.H.Host.world c.args.host.now) (g.H.Host.world c.loop.host) (g.H.Host.world c.settle_once.new.host)
           c.loop.invariant.beside c.settle_once.result (Ok false) (c.in-Ok-false.is ∙ ap Ok c.in-Ok-false.field-0-test) c.settle_once.ensures.leaves.beside));
-      safe = c.settle_once.ensures.safe;
-      ready = λ file was. c.settle_once.ensures.ready file (c.loop.invariant.ready file was);
+      safe = record { safe = c.settle_once.ensures.safe.safe; ready = λ file was. c.settle_once.ensures.safe.ready file (c.loop.invariant.safe.ready file was) };
     }
 
 pub returns-then-has_failed : goal.returns-then-has_failed
@@ -78,7 +75,6 @@ returns-then-has_failed g c =
       rests = tt;
       leaves = record { promise = left.promise; books = left.books; beside = left.beside };
       safe = c.loop.invariant.safe;
-      ready = c.loop.invariant.ready;
     }
 
 pub returns-then-working-eq0-clause-sees : goal.returns-then-working-eq0-clause-sees
@@ -122,6 +118,11 @@ returns-in-Err g c =
           (λ truly. c.settle_once.ensures.knows (c.loop.invariant.knows truly)) c.in-Err.ensures.doubted;
       rests = tt;
       leaves = record { promise = left.promise; books = left.books; beside = left.beside };
-      safe = c.settle_once.ensures.safe;
-      ready = λ file was. c.settle_once.ensures.ready file (c.loop.invariant.ready file was);
+      safe = record { safe = c.settle_once.ensures.safe.safe; ready = λ file was. c.settle_once.ensures.safe.ready file (c.loop.invariant.safe.ready file was) };
     }
+
+pub returns-then-working-eq0-clause-kept : goal.returns-then-working-eq0-clause-kept
+returns-then-working-eq0-clause-kept g c = record { fit = c.settle_once.ensures.kept.fit; aside = c.settle_once.ensures.kept.aside ∙ c.loop.invariant.aside }
+
+pub returns-then-working-eq0-clause-safe : goal.returns-then-working-eq0-clause-safe
+returns-then-working-eq0-clause-safe g c = record { safe = c.settle_once.ensures.safe.safe; ready = λ file was. c.settle_once.ensures.safe.ready file (c.loop.invariant.safe.ready file was) }

@@ -7,7 +7,7 @@ use Rattle.run_books.specs.declared.faults.RunFault.TheVariants.{InDoubt, WriteF
 use Rattle.run_books.proofs.BooksShared.{shared-keep}
 use Rattle.shared_settling.proofs.KeptBooks.{on-stepped, on-idle, on-idle-doubt, on-doubt, on-cut, on-unread, on-damaged, on-lack}
 use Rattle.shared_settling.proofs.PassSights.{step-among, step-promise}
-use Rattle.shared_settling.proofs.StepsBeside.{step-leaves}
+use Rattle.shared_settling.proofs.StepsBeside.{step-leaves, step-rests, step-doubts}
 use Rattle.shared_settling.proofs.Stops.{step-knows}
 use Rattle.shared_settling.proofs.steps.settle_once.Goals as goal
 
@@ -135,3 +135,12 @@ returns-in-Stop-LoadDamaged-clause-leaves g c = record {
 
 pub returns-in-Stop-LoadDamaged-clause-knows : goal.returns-in-Stop-LoadDamaged-clause-knows
 returns-in-Stop-LoadDamaged-clause-knows g c = λ truly. step-knows g.H.Host.tells g.H.Host.world g.H.Host.faults g.A.Access.may_come c.args.shape.now c.args.settler.now c.step.new.self (g.A.Access.sight c.args.access.now) (g.A.Access.sight c.step.new.access) c.args.host.now c.step.new.host truly c.step.result c.step.ensures.turns
+
+pub returns-else-doubted-clause-rests : goal.returns-else-doubted-clause-rests
+returns-else-doubted-clause-rests g c = λ q. (step-rests g.H.Host.tells g.H.Host.world g.H.Host.faults g.A.Access.may_come c.args.shape.now c.args.settler.now c.step.new.self (g.A.Access.sight c.args.access.now) (g.A.Access.sight c.step.new.access) c.args.host.now c.step.new.host c.step.result c.step.ensures.turns (c.in_ok-step.was ∙ ap Ok c.in-Nothing.is), sym c.doubted.ensures ∙ c.if-doubted.false)
+
+pub returns-then-doubted-clause-doubted : goal.returns-then-doubted-clause-doubted
+returns-then-doubted-clause-doubted g c = λ q. sym c.doubted.ensures ∙ c.if-doubted.true
+
+pub returns-in-Stop-InDoubt-clause-doubted : goal.returns-in-Stop-InDoubt-clause-doubted
+returns-in-Stop-InDoubt-clause-doubted g c = λ q. step-doubts g.H.Host.tells g.H.Host.world g.H.Host.faults g.A.Access.may_come c.args.shape.now c.args.settler.now c.step.new.self (g.A.Access.sight c.args.access.now) (g.A.Access.sight c.step.new.access) c.args.host.now c.step.new.host c.step.result c.step.ensures.turns (c.in_ok-step.was ∙ ap Ok (c.in-Stop-InDoubt.is ∙ ap Stop c.in-Stop-InDoubt.field-0-is))

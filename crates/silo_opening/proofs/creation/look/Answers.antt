@@ -1,8 +1,23 @@
 use Rattle.std.proofs.Common.{◌≡◌, ◌≢◌, inl, [], List, ℕ, length, is_ok, ap, arith}
 use Rattle.host_trait.specs.declared.channels.FileId.TheVariants.{Manager}
 use Rattle.host_trait.proofs.Runs.{none_asked, once_asked}
-use Rattle.silo_opening.proofs.ManagerLook.{looks_asked, looks_synced}
+use Rattle.silo_opening.proofs.ManagerLook.{asked_looks, looks_asked, looks_synced}
 use Rattle.silo_opening.proofs.creation.look.Goals as goal
+
+pub returns-in_err-length-clause-looks : goal.returns-in_err-length-clause-looks
+returns-in_err-length-clause-looks g c told =
+    let w0 = g.H.Host.world c.args.host.now in
+    asked_looks c.args.slot w0 _ (once_asked w0 w0 _ (none_asked w0) (c.length.ensures.told told))
+
+pub returns-then-branch-eq0-clause-looks : goal.returns-then-branch-eq0-clause-looks
+returns-then-branch-eq0-clause-looks g c told =
+    let w0 = g.H.Host.world c.args.host.now in
+    asked_looks c.args.slot w0 _ (once_asked w0 w0 _ (none_asked w0) (c.length.ensures.told told))
+
+pub returns-in_err-sync-clause-looks : goal.returns-in_err-sync-clause-looks
+returns-in_err-sync-clause-looks g c told =
+    let w0 = g.H.Host.world c.args.host.now in
+    looks_synced c.args.slot w0 _ _ (is_ok c.sync.result) (once_asked w0 w0 _ (none_asked w0) (c.length.ensures.told told)) (c.sync.ensures.told told)
 
 pub returns-in_err-front-clause-looks : goal.returns-in_err-front-clause-looks
 returns-in_err-front-clause-looks g c told =

@@ -1,8 +1,13 @@
-use Rattle.std.proofs.Common.{◌∙◌, sym, ap, nat_le, length}
+use Rattle.std.proofs.Common.{◌∙◌, refl, sym, ap, subst, nat_le, length, rules}
 use Rattle.host_trait.specs.declared.channels.FileId.TheVariants.{Manager}
+use Rattle.host_trait.specs.declared.channels.Channel.TheVariants.{File}
 use Rattle.host_trait.specs.World.{Image}
+use Rattle.host_trait.proofs.Counts.{none_then}
 use Rattle.host_trait.proofs.Runs.{asked_then}
+use Rattle.silo_opening.specs.declared.faults.OpenFault.{OpenFault}
+use Rattle.silo_opening.specs.Counts.{OpenFaulted}
 use Rattle.silo_opening.specs.OpenedSilo.{header_in, live_header}
+use Rattle.silo_opening.proofs.CallCounts.{failed_then}
 use Rattle.silo_opening.proofs.OpeningCalls.{opens_and_asked, opens_same, both_more}
 use Rattle.silo_opening.proofs.opened_silo.find_live.Goals as goal
 
@@ -40,3 +45,28 @@ returns-clause-only g c told = opens_and_asked _ _ _ _ (c.settle_both.ensures.on
 
 pub returns-clause-seen : goal.returns-clause-seen
 returns-clause-seen g c told = opens_same _ _ _ (opens_and_asked _ _ _ _ (c.settle_both.ensures.only told) (asked_then _ _ _ (c.read_header.ensures.asked told) (c.read_header-2.ensures.asked told)))
+
+-- ---- which calls have failed
+
+pub returns-in_default-clause-calls : goal.returns-in_default-clause-calls
+returns-in_default-clause-calls g c = record {
+  ready = λ file was. c.read_header.ensures.ready file (c.settle_both.ensures.calls.ready file was);
+  calm = tt;
+  fault = subst (λ (e : OpenFault). OpenFaulted e (g.H.Host.faults c.args.host.now) (g.H.Host.faults c.read_header.new.host)) (sym c.manager_fault.ensures)
+      (failed_then _ _ _ c.in_ok-long.ensures.calls.calm (File (Manager 0)) (c.read_header.ensures.faults.cause (search rules)));
+}
+
+pub returns-in_default-read_header-clause-calls : goal.returns-in_default-read_header-clause-calls
+returns-in_default-read_header-clause-calls g c = record {
+  ready = λ file was. c.read_header-2.ensures.ready file (c.read_header.ensures.ready file (c.settle_both.ensures.calls.ready file was));
+  calm = tt;
+  fault = subst (λ (e : OpenFault). OpenFaulted e (g.H.Host.faults c.args.host.now) (g.H.Host.faults c.read_header-2.new.host)) (sym c.manager_fault-in_default-read_header.ensures)
+      (failed_then _ _ _ (none_then _ _ _ c.in_ok-long.ensures.calls.calm (c.in-Ok.ensures.faults.calm refl)) (File (Manager 1)) (c.read_header-2.ensures.faults.cause (search rules)));
+}
+
+pub returns-clause-calls : goal.returns-clause-calls
+returns-clause-calls g c = record {
+  ready = λ file was. c.read_header-2.ensures.ready file (c.read_header.ensures.ready file (c.settle_both.ensures.calls.ready file was));
+  calm = none_then _ _ _ (none_then _ _ _ c.in_ok-long.ensures.calls.calm (c.in-Ok.ensures.faults.calm refl)) (c.in-Ok-read_header.ensures.faults.calm refl);
+  fault = tt;
+}

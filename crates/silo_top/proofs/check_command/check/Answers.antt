@@ -24,3 +24,9 @@ returns-clause-checks g c = λ told.
     let part = c.emit.ensures.part told in
     cut_checks c.args.starts c.args.seed plain_manner [] c.as_bytes.result.now part.0 (g.H.Host.world c.args.host.now) (g.H.Host.world c.emit.new.self) (g.H.Host.faults c.args.host.now) (g.H.Host.faults c.emit.new.self) bytes
     part.1 (c.emit.ensures.faults.cause (ap is_err c.in-Err-emit.is))
+
+pub returns-in-Ok-emit-clause-calls : goal.returns-in-Ok-emit-clause-calls
+returns-in-Ok-emit-clause-calls g c = record { exact = c.emit.ensures.faults.calm (ap is_ok c.in-Ok-emit.is); ready = c.emit.ensures.ready }
+
+pub returns-clause-calls : goal.returns-clause-calls
+returns-clause-calls g c = record { exact = c.emit.ensures.faults.cause (ap is_err c.in-Err-emit.is); ready = c.emit.ensures.ready }

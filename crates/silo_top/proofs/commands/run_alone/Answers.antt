@@ -37,35 +37,35 @@ returns-in-Ok-Init-clause-serves g c = λ told. obeyed_serves (texts_of c.args.w
     (shown (g.H.Host.world c.args.host.now) (g.H.Host.world c.make.new.host) (g.H.Host.faults c.args.host.now) (g.H.Host.faults c.make.new.host) c.make.result) (c.make.ensures.makes told)
 
 pub returns-in-Ok-Init-clause-answers : goal.returns-in-Ok-Init-clause-answers
-returns-in-Ok-Init-clause-answers g c = exact_answers (texts_of c.args.words.now) Init (understood (texts_of c.args.words.now) c.in-Ok-Init.field-0 Asked.Init c.in-Ok-Init.field-0-is c.in-Ok-Init.ensures.asked) (g.H.Host.faults c.args.host.now) (g.H.Host.faults c.make.new.host) (status_ending c.make.result) (λ q. c.make.ensures.good q) c.make.ensures.exact
+returns-in-Ok-Init-clause-answers g c = exact_answers (texts_of c.args.words.now) Init (understood (texts_of c.args.words.now) c.in-Ok-Init.field-0 Asked.Init c.in-Ok-Init.field-0-is c.in-Ok-Init.ensures.asked) (g.H.Host.faults c.args.host.now) (g.H.Host.faults c.make.new.host) (status_ending c.make.result) (λ q. c.make.ensures.good q) c.make.ensures.calls.exact
 
 pub returns-in-Ok-Show-clause-serves : goal.returns-in-Ok-Show-clause-serves
 returns-in-Ok-Show-clause-serves g c = λ told. obeyed_serves (texts_of c.args.words.now) Show (understood (texts_of c.args.words.now) c.in-Ok-Show.field-0 Asked.Show c.in-Ok-Show.field-0-is c.in-Ok-Show.ensures.asked)
     (shown (g.H.Host.world c.args.host.now) (g.H.Host.world c.show.new.host) (g.H.Host.faults c.args.host.now) (g.H.Host.faults c.show.new.host) c.show.result) (c.show.ensures.reports told)
 
 pub returns-in-Ok-Show-clause-answers : goal.returns-in-Ok-Show-clause-answers
-returns-in-Ok-Show-clause-answers g c = exact_answers (texts_of c.args.words.now) Show (understood (texts_of c.args.words.now) c.in-Ok-Show.field-0 Asked.Show c.in-Ok-Show.field-0-is c.in-Ok-Show.ensures.asked) (g.H.Host.faults c.args.host.now) (g.H.Host.faults c.show.new.host) (status_ending c.show.result) (λ q. c.show.ensures.good q) c.show.ensures.exact
+returns-in-Ok-Show-clause-answers g c = exact_answers (texts_of c.args.words.now) Show (understood (texts_of c.args.words.now) c.in-Ok-Show.field-0 Asked.Show c.in-Ok-Show.field-0-is c.in-Ok-Show.ensures.asked) (g.H.Host.faults c.args.host.now) (g.H.Host.faults c.show.new.host) (status_ending c.show.result) (λ q. c.show.ensures.good q) c.show.ensures.calls.exact
 
 pub returns-in-Ok-History-clause-serves : goal.returns-in-Ok-History-clause-serves
 returns-in-Ok-History-clause-serves g c = λ told. obeyed_serves (texts_of c.args.words.now) History (understood (texts_of c.args.words.now) c.in-Ok-History.field-0 Asked.History c.in-Ok-History.field-0-is c.in-Ok-History.ensures.asked)
     (shown (g.H.Host.world c.args.host.now) (g.H.Host.world c.history.new.host) (g.H.Host.faults c.args.host.now) (g.H.Host.faults c.history.new.host) c.history.result) (c.history.ensures.reports told)
 
 pub returns-in-Ok-History-clause-answers : goal.returns-in-Ok-History-clause-answers
-returns-in-Ok-History-clause-answers g c = exact_answers (texts_of c.args.words.now) History (understood (texts_of c.args.words.now) c.in-Ok-History.field-0 Asked.History c.in-Ok-History.field-0-is c.in-Ok-History.ensures.asked) (g.H.Host.faults c.args.host.now) (g.H.Host.faults c.history.new.host) (status_ending c.history.result) (λ q. c.history.ensures.good q) c.history.ensures.exact
+returns-in-Ok-History-clause-answers g c = exact_answers (texts_of c.args.words.now) History (understood (texts_of c.args.words.now) c.in-Ok-History.field-0 Asked.History c.in-Ok-History.field-0-is c.in-Ok-History.ensures.asked) (g.H.Host.faults c.args.host.now) (g.H.Host.faults c.history.new.host) (status_ending c.history.result) (λ q. c.history.ensures.good q) c.history.ensures.calls.exact
 
 pub returns-in-Ok-Audit-clause-serves : goal.returns-in-Ok-Audit-clause-serves
 returns-in-Ok-Audit-clause-serves g c = λ told. obeyed_serves (texts_of c.args.words.now) Audit (understood (texts_of c.args.words.now) c.in-Ok-Audit.field-0 Asked.Audit c.in-Ok-Audit.field-0-is c.in-Ok-Audit.ensures.asked)
     (shown (g.H.Host.world c.args.host.now) (g.H.Host.world c.audit.new.host) (g.H.Host.faults c.args.host.now) (g.H.Host.faults c.audit.new.host) c.audit.result) (c.audit.ensures.audits told)
 
 pub returns-in-Ok-Audit-clause-answers : goal.returns-in-Ok-Audit-clause-answers
-returns-in-Ok-Audit-clause-answers g c = exact_answers (texts_of c.args.words.now) Audit (understood (texts_of c.args.words.now) c.in-Ok-Audit.field-0 Asked.Audit c.in-Ok-Audit.field-0-is c.in-Ok-Audit.ensures.asked) (g.H.Host.faults c.args.host.now) (g.H.Host.faults c.audit.new.host) (status_ending c.audit.result) (λ q. c.audit.ensures.good q) c.audit.ensures.exact
+returns-in-Ok-Audit-clause-answers g c = exact_answers (texts_of c.args.words.now) Audit (understood (texts_of c.args.words.now) c.in-Ok-Audit.field-0 Asked.Audit c.in-Ok-Audit.field-0-is c.in-Ok-Audit.ensures.asked) (g.H.Host.faults c.args.host.now) (g.H.Host.faults c.audit.new.host) (status_ending c.audit.result) (λ q. c.audit.ensures.good q) c.audit.ensures.calls.exact
 
 pub returns-in-Ok-Check-clause-serves : goal.returns-in-Ok-Check-clause-serves
 returns-in-Ok-Check-clause-serves g c = λ told. obeyed_serves (texts_of c.args.words.now) (Check c.in-Ok-Check.starts c.in-Ok-Check.seed) (understood (texts_of c.args.words.now) c.in-Ok-Check.field-0 (Asked.Check c.in-Ok-Check.starts c.in-Ok-Check.seed) c.in-Ok-Check.field-0-is c.in-Ok-Check.ensures.asked)
     (shown (g.H.Host.world c.args.host.now) (g.H.Host.world c.check.new.host) (g.H.Host.faults c.args.host.now) (g.H.Host.faults c.check.new.host) c.check.result) (c.check.ensures.checks told)
 
 pub returns-in-Ok-Check-clause-answers : goal.returns-in-Ok-Check-clause-answers
-returns-in-Ok-Check-clause-answers g c = exact_answers (texts_of c.args.words.now) (Check c.in-Ok-Check.starts c.in-Ok-Check.seed) (understood (texts_of c.args.words.now) c.in-Ok-Check.field-0 (Asked.Check c.in-Ok-Check.starts c.in-Ok-Check.seed) c.in-Ok-Check.field-0-is c.in-Ok-Check.ensures.asked) (g.H.Host.faults c.args.host.now) (g.H.Host.faults c.check.new.host) (status_ending c.check.result) (λ q. c.check.ensures.good q) c.check.ensures.exact
+returns-in-Ok-Check-clause-answers g c = exact_answers (texts_of c.args.words.now) (Check c.in-Ok-Check.starts c.in-Ok-Check.seed) (understood (texts_of c.args.words.now) c.in-Ok-Check.field-0 (Asked.Check c.in-Ok-Check.starts c.in-Ok-Check.seed) c.in-Ok-Check.field-0-is c.in-Ok-Check.ensures.asked) (g.H.Host.faults c.args.host.now) (g.H.Host.faults c.check.new.host) (status_ending c.check.result) (λ q. c.check.ensures.good q) c.check.ensures.calls.exact
 
 pub returns-in-Ok-Run-Turns-clause-serves : goal.returns-in-Ok-Run-Turns-clause-serves
 returns-in-Ok-Run-Turns-clause-serves g c = λ told. obeyed_serves (texts_of c.args.words.now) (Run (turns_manner c.in-Ok-Run-Turns.width c.in-Ok-Run-Turns.picks)) (understood (texts_of c.args.words.now) c.in-Ok-Run-Turns.field-0 (Asked.Run (Carriage.Turns c.in-Ok-Run-Turns.width c.in-Ok-Run-Turns.picks)) (run_how c.in-Ok-Run-Turns.field-0 c.in-Ok-Run-Turns.field-0-0 (Carriage.Turns c.in-Ok-Run-Turns.width c.in-Ok-Run-Turns.picks) c.in-Ok-Run-Turns.field-0-is c.in-Ok-Run-Turns.field-0-0-is) c.in-Ok-Run-Turns.ensures.asked)
@@ -143,7 +143,7 @@ returns-in-Ok-Compact-clause-serves g c = λ told. obeyed_serves (texts_of c.arg
     (shown (g.H.Host.world c.args.host.now) (g.H.Host.world c.compact.new.host) (g.H.Host.faults c.args.host.now) (g.H.Host.faults c.compact.new.host) c.compact.result) (c.compact.ensures.compacts told)
 
 pub returns-in-Ok-Compact-clause-answers : goal.returns-in-Ok-Compact-clause-answers
-returns-in-Ok-Compact-clause-answers g c = exact_answers (texts_of c.args.words.now) Compact (understood (texts_of c.args.words.now) c.in-Ok-Compact.field-0 Asked.Compact c.in-Ok-Compact.field-0-is c.in-Ok-Compact.ensures.asked) (g.H.Host.faults c.args.host.now) (g.H.Host.faults c.compact.new.host) (status_ending c.compact.result) (λ q. c.compact.ensures.good q) c.compact.ensures.exact
+returns-in-Ok-Compact-clause-answers g c = exact_answers (texts_of c.args.words.now) Compact (understood (texts_of c.args.words.now) c.in-Ok-Compact.field-0 Asked.Compact c.in-Ok-Compact.field-0-is c.in-Ok-Compact.ensures.asked) (g.H.Host.faults c.args.host.now) (g.H.Host.faults c.compact.new.host) (status_ending c.compact.result) (λ q. c.compact.ensures.good q) c.compact.ensures.calls.exact
 
 pub returns-in-Ok-Compact-clause-alone : goal.returns-in-Ok-Compact-clause-alone
 returns-in-Ok-Compact-clause-alone g c = inr (without (texts_of c.args.words.now) Compact (understood (texts_of c.args.words.now) c.in-Ok-Compact.field-0 Asked.Compact c.in-Ok-Compact.field-0-is c.in-Ok-Compact.ensures.asked) refl)
@@ -153,7 +153,7 @@ returns-in-Ok-Upgrade-clause-serves g c = λ told. obeyed_serves (texts_of c.arg
     (shown (g.H.Host.world c.args.host.now) (g.H.Host.world c.upgrade.new.host) (g.H.Host.faults c.args.host.now) (g.H.Host.faults c.upgrade.new.host) c.upgrade.result) (c.upgrade.ensures.upgrades told)
 
 pub returns-in-Ok-Upgrade-clause-answers : goal.returns-in-Ok-Upgrade-clause-answers
-returns-in-Ok-Upgrade-clause-answers g c = exact_answers (texts_of c.args.words.now) Upgrade (understood (texts_of c.args.words.now) c.in-Ok-Upgrade.field-0 Asked.Upgrade c.in-Ok-Upgrade.field-0-is c.in-Ok-Upgrade.ensures.asked) (g.H.Host.faults c.args.host.now) (g.H.Host.faults c.upgrade.new.host) (status_ending c.upgrade.result) (λ q. c.upgrade.ensures.good q) c.upgrade.ensures.exact
+returns-in-Ok-Upgrade-clause-answers g c = exact_answers (texts_of c.args.words.now) Upgrade (understood (texts_of c.args.words.now) c.in-Ok-Upgrade.field-0 Asked.Upgrade c.in-Ok-Upgrade.field-0-is c.in-Ok-Upgrade.ensures.asked) (g.H.Host.faults c.args.host.now) (g.H.Host.faults c.upgrade.new.host) (status_ending c.upgrade.result) (λ q. c.upgrade.ensures.good q) c.upgrade.ensures.calls.exact
 
 pub returns-in-Ok-Upgrade-clause-alone : goal.returns-in-Ok-Upgrade-clause-alone
 returns-in-Ok-Upgrade-clause-alone g c = inr (without (texts_of c.args.words.now) Upgrade (understood (texts_of c.args.words.now) c.in-Ok-Upgrade.field-0 Asked.Upgrade c.in-Ok-Upgrade.field-0-is c.in-Ok-Upgrade.ensures.asked) refl)
@@ -163,7 +163,37 @@ returns-in-Ok-Migrate-clause-serves g c = λ told. obeyed_serves (texts_of c.arg
     (shown (g.H.Host.world c.args.host.now) (g.H.Host.world c.migrate.new.host) (g.H.Host.faults c.args.host.now) (g.H.Host.faults c.migrate.new.host) c.migrate.result) (c.migrate.ensures.migrates told)
 
 pub returns-in-Ok-Migrate-clause-answers : goal.returns-in-Ok-Migrate-clause-answers
-returns-in-Ok-Migrate-clause-answers g c = exact_answers (texts_of c.args.words.now) Migrate (understood (texts_of c.args.words.now) c.in-Ok-Migrate.field-0 Asked.Migrate c.in-Ok-Migrate.field-0-is c.in-Ok-Migrate.ensures.asked) (g.H.Host.faults c.args.host.now) (g.H.Host.faults c.migrate.new.host) (status_ending c.migrate.result) (λ q. c.migrate.ensures.good q) c.migrate.ensures.exact
+returns-in-Ok-Migrate-clause-answers g c = exact_answers (texts_of c.args.words.now) Migrate (understood (texts_of c.args.words.now) c.in-Ok-Migrate.field-0 Asked.Migrate c.in-Ok-Migrate.field-0-is c.in-Ok-Migrate.ensures.asked) (g.H.Host.faults c.args.host.now) (g.H.Host.faults c.migrate.new.host) (status_ending c.migrate.result) (λ q. c.migrate.ensures.good q) c.migrate.ensures.calls.exact
 
 pub returns-in-Ok-Migrate-clause-alone : goal.returns-in-Ok-Migrate-clause-alone
 returns-in-Ok-Migrate-clause-alone g c = inr (without (texts_of c.args.words.now) Migrate (understood (texts_of c.args.words.now) c.in-Ok-Migrate.field-0 Asked.Migrate c.in-Ok-Migrate.field-0-is c.in-Ok-Migrate.ensures.asked) refl)
+
+pub returns-in-Ok-Init-clause-ready : goal.returns-in-Ok-Init-clause-ready
+returns-in-Ok-Init-clause-ready g c = c.make.ensures.calls.ready
+
+pub returns-in-Ok-Show-clause-ready : goal.returns-in-Ok-Show-clause-ready
+returns-in-Ok-Show-clause-ready g c = c.show.ensures.calls.ready
+
+pub returns-in-Ok-History-clause-ready : goal.returns-in-Ok-History-clause-ready
+returns-in-Ok-History-clause-ready g c = c.history.ensures.calls.ready
+
+pub returns-in-Ok-Audit-clause-ready : goal.returns-in-Ok-Audit-clause-ready
+returns-in-Ok-Audit-clause-ready g c = c.audit.ensures.calls.ready
+
+pub returns-in-Ok-Check-clause-ready : goal.returns-in-Ok-Check-clause-ready
+returns-in-Ok-Check-clause-ready g c = c.check.ensures.calls.ready
+
+pub returns-in-Ok-Run-Turns-clause-ready : goal.returns-in-Ok-Run-Turns-clause-ready
+returns-in-Ok-Run-Turns-clause-ready g c = c.run_in_turns.ensures.ready
+
+pub returns-in-Ok-Load-default-default-Turns-clause-ready : goal.returns-in-Ok-Load-default-default-Turns-clause-ready
+returns-in-Ok-Load-default-default-Turns-clause-ready g c = c.load_in_turns.ensures.ready
+
+pub returns-in-Ok-Compact-clause-ready : goal.returns-in-Ok-Compact-clause-ready
+returns-in-Ok-Compact-clause-ready g c = c.compact.ensures.calls.ready
+
+pub returns-in-Ok-Upgrade-clause-ready : goal.returns-in-Ok-Upgrade-clause-ready
+returns-in-Ok-Upgrade-clause-ready g c = c.upgrade.ensures.calls.ready
+
+pub returns-in-Ok-Migrate-clause-ready : goal.returns-in-Ok-Migrate-clause-ready
+returns-in-Ok-Migrate-clause-ready g c = c.migrate.ensures.calls.ready

@@ -44,3 +44,9 @@ load_by_workers-requires-clause-few g c l u = (subst MayBeLeft c.in-Err-Load.fie
 
 pub load_by_workers-requires-clause-many : goal.load_by_workers-requires-clause-many
 load_by_workers-requires-clause-many g c l u = (subst MayBeLeft c.in-Err-Load.field-0-is c.in-Err-Load.ensures.bounds).1
+
+pub returns-in-Err-Run-clause-ready : goal.returns-in-Err-Run-clause-ready
+returns-in-Err-Run-clause-ready g c = λ file was. c.run_by_workers.ensures.ready file (c.run_alone.ensures.ready file was)
+
+pub returns-in-Err-Load-clause-ready : goal.returns-in-Err-Load-clause-ready
+returns-in-Err-Load-clause-ready g c = λ file was. c.load_by_workers.ensures.ready file (c.run_alone.ensures.ready file was)

@@ -162,3 +162,15 @@ returns-in-Ok-load_lines-clause-keeps g c = λ told m settler' after new result 
     (λ short. load_carries c.args.transfers c.args.seed m (with_checked c.in-Ok-open_silo.opened c.in-Ok.bank) c.in-Ok-start.started (g.H.Host.world c.create.new.host) (g.H.Host.world c.open_silo.new.host) new (g.H.Host.faults c.create.new.host) (g.H.Host.faults c.open_silo.new.host) after result (behind_bank short) c.in-Ok-start.ensures.start bank_is (made.bank short) (λ file. g.met.H.Host.seen_may_stay c.open_silo.new.host file told) stay c.in-Ok-start.ensures.quiet
     c.in-Ok-load_lines.lines are went.wide c.in-Ok-open_silo.ensures.bounds.next.0 c.in-Ok-open_silo.ensures.calls.calm settler' went.used carried (texts_ask types c.args.transfers c.args.seed read) requests
     (many ∙ ap length c.in-Ok-load_lines.ensures ∙ numbered_many 0 (load_calls c.args.transfers c.args.seed)) status final last (subst (λ (n : ℕ). LoadCounts n result status after final) c.in-Ok-start.ensures.start.slot counts) says)
+
+pub returns-in-Err-open_silo-clause-ready : goal.returns-in-Err-open_silo-clause-ready
+returns-in-Err-open_silo-clause-ready g c = λ file was. c.open_silo.ensures.calls.ready file (c.create.ensures.calls.ready file was)
+
+pub returns-in-Err-start-clause-ready : goal.returns-in-Err-start-clause-ready
+returns-in-Err-start-clause-ready g c = λ file was. c.open_silo.ensures.calls.ready file (c.create.ensures.calls.ready file was)
+
+pub returns-in-Err-load_lines-clause-ready : goal.returns-in-Err-load_lines-clause-ready
+returns-in-Err-load_lines-clause-ready g c = λ file was. c.open_silo.ensures.calls.ready file (c.create.ensures.calls.ready file was)
+
+pub returns-in-Ok-load_lines-clause-ready : goal.returns-in-Ok-load_lines-clause-ready
+returns-in-Ok-load_lines-clause-ready g c = λ file was. c.open_silo.ensures.calls.ready file (c.create.ensures.calls.ready file was)

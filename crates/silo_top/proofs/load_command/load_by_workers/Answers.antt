@@ -29,3 +29,6 @@ returns-clause-answers g c = c.in-Ok.ensures.answers_on workers_manner c.carry_b
           c.new-placed.ensures (c.carry_by_workers-ended.ensures.carried 0);
     })
     c.end_load.ensures.counts
+
+pub returns-clause-ready : goal.returns-clause-ready
+returns-clause-ready g c = λ file was. c.end_load.ensures.ready file (c.carry_by_workers-ended.ensures.safe.ready file (c.begin_load.ensures.ready file was))

@@ -29,3 +29,6 @@ returns-clause-answers g c = c.in-Ok.ensures.answers_on (turns_manner c.args.wid
           c.new-placed.ensures c.carry_in_turns-ended.ensures.carried;
     })
     c.end_load.ensures.counts
+
+pub returns-clause-ready : goal.returns-clause-ready
+returns-clause-ready g c = λ file was. c.end_load.ensures.ready file (c.carry_in_turns-ended.ensures.safe.ready file (c.begin_load.ensures.ready file was))

@@ -21,8 +21,8 @@ returns-in-Ok-emit-clause-says g c = λ told.
     c.as_slice.ensures ∙ c.in-Ok.ensures ∙ ap (summary_line w.manager.settled c.args.requests) (to_z-of_z w128 c.total_balance-total.result fits ∙ c.total_balance-total.ensures) in
     emitted_so (summary_line w.manager.settled c.args.requests (total_kept w 64)) c.as_slice.result.now ending.Done (length c.as_slice.result.now) (g.H.Host.world c.args.host.now) (g.H.Host.world c.emit.new.self) bytes (c.in-Ok-emit.ensures.ok told) (λ q. refl) (λ q. cc q)
 
-pub returns-in-Ok-emit-clause-exact : goal.returns-in-Ok-emit-clause-exact
-returns-in-Ok-emit-clause-exact g c = c.emit.ensures.faults.calm (ap is_ok c.in-Ok-emit.is)
+pub returns-in-Ok-emit-clause-calls : goal.returns-in-Ok-emit-clause-calls
+returns-in-Ok-emit-clause-calls g c = record { exact = c.emit.ensures.faults.calm (ap is_ok c.in-Ok-emit.is); ready = c.emit.ensures.ready }
 
 pub returns-clause-says : goal.returns-clause-says
 returns-clause-says g c = λ told.
@@ -36,5 +36,5 @@ returns-clause-says g c = λ told.
 pub returns-then-not-keeps_last-clause-says : goal.returns-then-not-keeps_last-clause-says
 returns-then-not-keeps_last-clause-says g c = λ told. nothing_said (summary_line (ends (run_of c.args.core.now)).manager.settled c.args.requests (total_kept (ends (run_of c.args.core.now)) 64)) (g.H.Host.world c.args.host.now)
 
-pub returns-clause-exact : goal.returns-clause-exact
-returns-clause-exact g c = c.emit.ensures.faults.cause (ap is_err c.in-Err-emit.is)
+pub returns-clause-calls : goal.returns-clause-calls
+returns-clause-calls g c = record { exact = c.emit.ensures.faults.cause (ap is_err c.in-Err-emit.is); ready = c.emit.ensures.ready }

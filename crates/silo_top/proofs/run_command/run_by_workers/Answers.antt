@@ -12,3 +12,6 @@ returns-in-Ok-clause-answers g c =
 
 pub returns-in-Err-clause-promises : goal.returns-in-Err-clause-promises
 returns-in-Err-clause-promises g c = λ told. c.in-Err.ensures.promises told workers_manner
+
+pub returns-in-Ok-clause-ready : goal.returns-in-Ok-clause-ready
+returns-in-Ok-clause-ready g c = λ file was. c.windows_by_workers.ensures.ready file (c.begin_run.ensures.ready file was)

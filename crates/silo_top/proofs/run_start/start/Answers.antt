@@ -10,13 +10,13 @@ use Rattle.silo_top.proofs.run_start.start.Goals as goal
 
 pub returns-clause-start : goal.returns-clause-start
 returns-clause-start c =
-    let made = c.in_ok-settler.ensures in
+    let made = c.in-Ok-new.ensures in
     let started : Shape → Places → Option ℕ → Run = λ s places limit. record { base = c.args.opened.next_unit.0; kinds = length s.types; capacity = limit; opening = placed_state s places; events = [] } in
-    let shape : c.in_ok-shape.shape ≡ record { types = type_shapes (program_tree c.args.opened.checked) } = (λ i. record { types = c.in_ok-shape.ensures i }) in
+    let shape : c.in-Ok.shape ≡ record { types = type_shapes (program_tree c.args.opened.checked) } = (λ i. record { types = c.in-Ok.ensures i }) in
     record {
       checked = refl;
       slot = refl;
-      run = c.new-core.ensures.run ∙ (λ i. started (shape i) (c.of.ensures i) (c.in_ok-recent.ensures.limit i));
+      run = c.new-core.ensures.run ∙ (λ i. started (shape i) (c.of.ensures i) (c.in-Ok-unused_memory.ensures.limit i));
       settles = made.slot;
       session = made.session ∙ c.in-Some.ensures.next.0;
       gate = made.gate;

@@ -32,7 +32,7 @@ returns-in-Ok-carry_in_turns-clause-goes g c = λ before old u.
 
 pub returns-in-Ok-carry_in_turns-clause-can : goal.returns-in-Ok-carry_in_turns-clause-can
 returns-in-Ok-carry_in_turns-clause-can g c =
-    can_further g.H.Host.tells c.args.running.started c.in-Ok-carry_in_turns.core c.carry_in_turns.new.settler (g.H.Host.world c.args.host.now) (g.H.Host.world c.carry_in_turns.new.host) _ _ _ _ _ _ _ _ c.carry_in_turns.result c.carry_in_turns.ensures.carried c.in-Ok-carry_in_turns.is c.requires.can c.carry_in_turns.ensures.safe
+    can_further g.H.Host.tells c.args.running.started c.in-Ok-carry_in_turns.core c.carry_in_turns.new.settler (g.H.Host.world c.args.host.now) (g.H.Host.world c.carry_in_turns.new.host) _ _ _ _ _ _ _ _ c.carry_in_turns.result c.carry_in_turns.ensures.carried c.in-Ok-carry_in_turns.is c.requires.can c.carry_in_turns.ensures.safe.safe
 
 pub returns-in-Err-carry_in_turns-clause-goes : goal.returns-in-Err-carry_in_turns-clause-goes
 returns-in-Err-carry_in_turns-clause-goes g c = λ before old u.
@@ -42,3 +42,9 @@ returns-in-Err-carry_in_turns-clause-goes g c = λ before old u.
     (c.new_behind-lines.ensures ∙ ap (λ (n : ℕ). lines_from_texts (program_tree c.args.running.started.checked) n (lines_of c.window.result.now)) c.lines_before.ensures ∙ ap (λ (l : List ℕ). lines_from_texts (program_tree c.args.running.started.checked) (before_in c.next_window.new.windows) (lines_of l)) c.window.ensures.bytes)
     c.carry_in_turns.ensures.carried)
     c.in-Err-carry_in_turns.fault c.in-Err-carry_in_turns.is c.fault_status.result (c.fault_status.ensures ∙ ap (λ (n : ℕ). ending_by_turns n c.in-Err-carry_in_turns.fault) u.slot) (λ told file. g.met.H.Host.seen_may_stay c.carry_in_turns.new.host file told)
+
+pub returns-in-Ok-carry_in_turns-clause-ready : goal.returns-in-Ok-carry_in_turns-clause-ready
+returns-in-Ok-carry_in_turns-clause-ready g c = λ file was. c.carry_in_turns.ensures.safe.ready file (c.next_window.ensures.ready file was)
+
+pub returns-in-Err-carry_in_turns-clause-ready : goal.returns-in-Err-carry_in_turns-clause-ready
+returns-in-Err-carry_in_turns-clause-ready g c = λ file was. c.carry_in_turns.ensures.safe.ready file (c.next_window.ensures.ready file was)

@@ -20,3 +20,6 @@ loop-further-smaller g c = let further = c.in-Ok.ensures.further in let few = c.
 
 pub returns-in-Err-clause-ends : goal.returns-in-Err-clause-ends
 returns-in-Err-clause-ends g c = λ before old u. c.in-Err.ensures.goes before old (c.loop-further.invariant.stays before old u)
+
+pub returns-in-Err-clause-ready : goal.returns-in-Err-clause-ready
+returns-in-Err-clause-ready g c = λ file was. c.window_in_turns.ensures.ready file (c.loop-further.invariant.ready file was)

@@ -8,7 +8,7 @@ use Rattle.atomic_table.proofs.send_lease.SendLease.TheSendSync as lease
 use Rattle.run_lines.proofs.SharedValues.{checked_sync}
 use Rattle.silo_workers.proofs.CoreMoves.{core_send, captures_send}
 use Rattle.silo_workers.proofs.crowd.+crowd.Lts-crowd as lts
-use Rattle.std.proofs.Common.{sym, subst}
+use Rattle.std.proofs.Common.{sym, ap, subst, ◌∙◌}
 use Rattle.script_tree.specs.Programs.{program_tree}
 use Rattle.core_access.specs.PassSights.{sight_of}
 use Rattle.core_access.specs.Sights.{Sight}
@@ -61,3 +61,9 @@ spawn_with-requires-send-F g t c κs = λ out.
 pub spawn_with-requires-clause-keeps : goal.spawn_with-requires-clause-keeps
 spawn_with-requires-clause-keeps g t c κs lives r back =
     subst (λ (o : CorePass). BringsBack (program_tree c.args.team.now.checked.now) c.args.team.now.before (g.L.Lines.lines c.args.team.now.lines.now) r.1 o r.0) (sym c.of.ensures) back
+
+pub returns-in-Ok-clause-none : goal.returns-in-Ok-clause-none
+returns-in-Ok-clause-none g t c = λ q. c.crowd-pass.ensures.none (sym (ap (λ (x : Gathered). x.started) c.and.ensures) ∙ q)
+
+pub returns-in-Err-clause-none : goal.returns-in-Err-clause-none
+returns-in-Err-clause-none g t c = λ q. c.crowd-pass-in-Err.ensures.none (sym (ap (λ (x : Gathered). x.started) c.and-in-Err.ensures) ∙ q)

@@ -29,8 +29,8 @@ returns-in-Err-shape-clause-beside g c = core-beside g.H.Host.tells (run_of c.ar
 pub returns-in-Err-blank_settler-clause-beside : goal.returns-in-Err-blank_settler-clause-beside
 returns-in-Err-blank_settler-clause-beside g c = core-beside g.H.Host.tells (run_of c.args.core) (run_of c.args.core) c.args.settler.now (g.H.Host.faults c.args.host.now) (g.H.Host.world c.args.host.now) _ [] (run-stays (run_of c.args.core))
 
-pub returns-in-Ok-new-clause-record_kept : goal.returns-in-Ok-new-clause-record_kept
-returns-in-Ok-new-clause-record_kept g c = λ o b is can fresh turns.
+pub returns-clause-record_kept : goal.returns-clause-record_kept
+returns-clause-record_kept g c = λ o b is can fresh turns.
     let closed = closed-from c.in-Ok-new.ensures.first c.gather-core.ensures.closed in
     let accepted = c.program-program.ensures.checked in
     let shaped = c.in-Ok-shape.ensures in
@@ -44,8 +44,8 @@ returns-in-Ok-new-clause-record_kept g c = λ o b is can fresh turns.
     c.show_few.ensures.units c.show_few.ensures.lines can.quiet
     (ap (λ (k : ℕ). k + length (g.L.Lines.lines c.args.lines.now)) c.in-Ok.ensures ∙ sym is.all))
 
-pub returns-in-Ok-new-clause-beside : goal.returns-in-Ok-new-clause-beside
-returns-in-Ok-new-clause-beside g c = c.end_run-ended.ensures.beside _ (gathered-beside (closed-from c.in-Ok-new.ensures.first c.gather-core.ensures.closed))
+pub returns-clause-beside : goal.returns-clause-beside
+returns-clause-beside g c = c.end_run-ended.ensures.beside _ (gathered-beside (closed-from c.in-Ok-new.ensures.first c.gather-core.ensures.closed))
 
 pub carry_in_turns-ended-requires-clause-above : goal.carry_in_turns-ended-requires-clause-above
 carry_in_turns-ended-requires-clause-above g c =
@@ -66,3 +66,9 @@ returns-then-has_none-clause-beside g c =
     let still = gathered-same (closed-from c.in-Ok-new.ensures.first c.gather-core.ensures.closed) none.0 none.1 in
     let left = c.gather-core.ensures.none none.0 in
     turned-beside still left.0 (ap g.H.Host.faults left.1) (ap g.H.Host.world left.1) c.carry_in_turns-ended.ensures.carries.beside
+
+pub returns-clause-safe : goal.returns-clause-safe
+returns-clause-safe g c = record { safe = c.end_run-ended.ensures.safe.safe; ready = λ file was. c.end_run-ended.ensures.safe.ready file (c.gather-core.ensures.safe.ready file was) }
+
+pub returns-then-has_none-clause-safe : goal.returns-then-has_none-clause-safe
+returns-then-has_none-clause-safe g c = record { safe = c.carry_in_turns-ended.ensures.safe.safe; ready = λ file was. c.carry_in_turns-ended.ensures.safe.ready file (c.gather-core.ensures.safe.ready file was) }

@@ -2,6 +2,7 @@ use Rattle.std.proofs.Common.{◌≡◌, ◌+◌, ◌∙◌, refl, sym, ap, subs
 use Rattle.std.specs.Prelude.{Bool, Result, Ok, Err, length}
 use Rattle.std.proofs.lemmas.Bool.{and_parts}
 use Rattle.std.proofs.lemmas.Result.{err_from_is_err_and}
+use Rattle.base_types.specs.declared.shapes.Shape.{Shape}
 use Rattle.history_core.specs.Cores.{run_of}
 use Rattle.script_tree.specs.Programs.{program_tree}
 use Rattle.run_books.specs.declared.faults.RunFault.{RunFault}
@@ -26,8 +27,7 @@ loop-index-init g c = record {
   used = refl;
   shape = refl;
   doubted = refl;
-  safe = c.requires.safe;
-  ready = λ file was. was;
+  safe = record { safe = c.requires.safe; ready = λ file was. was };
   beside = none-beside g.H.Host.tells (run_of c.args.core.now) (run_of c.args.core.now) c.args.settler.now (g.H.Host.faults c.args.host.now) (g.H.Host.world c.args.host.now) {T = Bool} (Ok true) refl;
   went = λ o b lines width picks way full. skipped (program_tree c.args.checked.now) (stage_of g.H.Host.world g.H.Host.faults (run_of c.args.core.now) c.args.settler.now c.args.host.now) c.args.self.now c.requires.units.sure c.requires.space c.args.self.now.front c.next_to_ask-index.result c.next_to_ask-index.ensures.behind c.next_to_ask-index.ensures.within c.next_to_ask-index.ensures.sure g.H.Host.tells o lines width picks b (turn_stage (stage_of g.H.Host.world g.H.Host.faults (run_of c.args.core.now) c.args.settler.now c.args.host.now) c.args.self.now) c.requires.calm
       (pass-begins g.H.Host.tells o (program_tree c.args.checked.now) lines width picks b (stage_of g.H.Host.world g.H.Host.faults (run_of c.args.core.now) c.args.settler.now c.args.host.now) c.args.self.now c.args.self.now.front c.requires.units.carried c.requires.units.freed way full);
@@ -49,8 +49,7 @@ loop-index-preserved g c =
       used = c.ask_unless_sure.ensures.leaves.used ∙ inv.used;
       shape = c.ask_unless_sure.ensures.leaves.shape ∙ inv.shape;
       doubted = c.ask_unless_sure.ensures.leaves.doubted ∙ inv.doubted;
-      safe = c.ask_unless_sure.ensures.safe;
-      ready = λ file was. c.ask_unless_sure.ensures.ready file (inv.ready file was);
+      safe = record { safe = c.ask_unless_sure.ensures.safe.safe; ready = λ file was. c.ask_unless_sure.ensures.safe.ready file (inv.safe.ready file was) };
       beside = one-after-another {T = Bool} {U = Bool} g.H.Host.tells (run_of c.args.core.now) (run_of c.loop-index.core) (run_of c.ask_unless_sure.new.core) c.args.settler.now c.loop-index.settler c.ask_unless_sure.new.settler
           (g.H.Host.faults c.args.host.now) (g.H.Host.faults c.loop-index.host) (g.H.Host.faults c.ask_unless_sure.new.host) (g.H.Host.world c.args.host.now) (g.H.Host.world c.loop-index.host) (g.H.Host.world c.ask_unless_sure.new.host) true (Ok true) inv.beside
           (beside-well g.H.Host.tells (run_of c.loop-index.core) (run_of c.ask_unless_sure.new.core) c.loop-index.settler c.ask_unless_sure.new.settler (g.H.Host.faults c.loop-index.host) (g.H.Host.faults c.ask_unless_sure.new.host) (g.H.Host.world c.loop-index.host) (g.H.Host.world c.ask_unless_sure.new.host)
@@ -109,3 +108,57 @@ returns-clause-lack g c = λ is.
     let end : c.len.result ≡ length c.loop-index.self.agents.list.items = search in
     let past = c.loop-index-test.false in
     lack-all (program_tree c.args.checked.now) (run_of c.loop-index.core) c.loop-index.self.agents.list.items c.loop-index.index (omega (arith, end, past)) (inv.lack is)
+
+pub returns-in_err-lacks_none-clause-units : goal.returns-in_err-lacks_none-clause-units
+returns-in_err-lacks_none-clause-units g c = let q = err_from_is_err_and c.from_residual.result c.from_residual.ensures.1 in rw q.1 tt
+
+pub returns-in_err-lacks_none-clause-lack : goal.returns-in_err-lacks_none-clause-lack
+returns-in_err-lacks_none-clause-lack g c = let q = err_from_is_err_and c.from_residual.result c.from_residual.ensures.1 in rw q.1 tt
+
+pub returns-in_err-lacks_none-clause-begun : goal.returns-in_err-lacks_none-clause-begun
+returns-in_err-lacks_none-clause-begun g c = c.ask_unless_sure.ensures.leaves.begun ∙ c.loop-index.invariant.begun
+
+pub returns-in_err-lacks_none-clause-used : goal.returns-in_err-lacks_none-clause-used
+returns-in_err-lacks_none-clause-used g c = c.ask_unless_sure.ensures.leaves.used ∙ c.loop-index.invariant.used
+
+pub returns-in_err-lacks_none-clause-shape : goal.returns-in_err-lacks_none-clause-shape
+returns-in_err-lacks_none-clause-shape g c = c.ask_unless_sure.ensures.leaves.shape ∙ c.loop-index.invariant.shape
+
+pub returns-in_err-lacks_none-clause-safe : goal.returns-in_err-lacks_none-clause-safe
+returns-in_err-lacks_none-clause-safe g c = record { safe = c.ask_unless_sure.ensures.safe.safe; ready = λ file was. c.ask_unless_sure.ensures.safe.ready file (c.loop-index.invariant.safe.ready file was) }
+
+pub returns-clause-units : goal.returns-clause-units
+returns-clause-units g c = c.loop-index.invariant.units
+
+pub returns-clause-begun : goal.returns-clause-begun
+returns-clause-begun g c = c.loop-index.invariant.begun
+
+pub returns-clause-used : goal.returns-clause-used
+returns-clause-used g c = c.loop-index.invariant.used
+
+pub returns-clause-shape : goal.returns-clause-shape
+returns-clause-shape g c = c.loop-index.invariant.shape
+
+pub returns-clause-safe : goal.returns-clause-safe
+returns-clause-safe g c = c.loop-index.invariant.safe
+
+pub next_to_ask-index-requires : goal.next_to_ask-index-requires
+next_to_ask-index-requires g c = record { older = c.requires.units.carried.older }
+
+pub next_to_ask-index-requires-in-loop-index : goal.next_to_ask-index-requires-in-loop-index
+next_to_ask-index-requires-in-loop-index g c = record { older = c.in_ok-lacks_none.ensures.units.carried.older }
+
+pub ask_unless_sure-requires-clause-front : goal.ask_unless_sure-requires-clause-front
+ask_unless_sure-requires-clause-front g c = c.loop-index.invariant.past
+
+pub ask_unless_sure-requires-clause-units : goal.ask_unless_sure-requires-clause-units
+ask_unless_sure-requires-clause-units g c = c.loop-index.invariant.units
+
+pub ask_unless_sure-requires-clause-space : goal.ask_unless_sure-requires-clause-space
+ask_unless_sure-requires-clause-space g c = c.loop-index.invariant.space
+
+pub ask_unless_sure-requires-clause-shape : goal.ask_unless_sure-requires-clause-shape
+ask_unless_sure-requires-clause-shape g c = ap (λ (x : Shape). x.types) c.loop-index.invariant.shape ∙ c.requires.shape
+
+pub ask_unless_sure-requires-clause-safe : goal.ask_unless_sure-requires-clause-safe
+ask_unless_sure-requires-clause-safe g c = c.loop-index.invariant.safe.safe

@@ -1,6 +1,5 @@
 use Rattle.std.proofs.Common.{◌≡◌, ◌-◌, ◌≤◌, length, ℕ, List, Bool, true, false, Ok}
 use Rattle.std.specs.Prelude.{take}
-use Rattle.host_trait.specs.Files.{StaysReady}
 use Rattle.request_wire.specs.declared.requests.Line.{Line}
 use Rattle.history_core.specs.Cores.{run_of}
 use Rattle.script_tree.specs.Programs.{program_tree}
@@ -9,7 +8,7 @@ use Rattle.unit_carrier.specs.CarriedUnits.{as_carried, units_carried}
 use Rattle.run_books.specs.Beginnings.{Outset}
 use Rattle.run_books.specs.Books.{Books}
 use Rattle.run_books.specs.RecordFrame.{TurnsBeside}
-use Rattle.run_books.specs.Stages.{stage_of, IsSafe}
+use Rattle.run_books.specs.Stages.{stage_of, StaysSafe}
 use Rattle.interleaver.specs.Flights.{loop_at}
 use Rattle.interleaver.specs.TurnStages.{HoldsUnits, IsAsking, IsUnderWay, WentOn, passing_stage, turn_stage}
 use Rattle.interleaver.specs.SureUnits.{LackNone, SureBySpace}
@@ -25,8 +24,7 @@ invariant-loop-index g l = record {
   used : l.self.used ≡ l.initial.self.used;
   shape : l.self.shape ≡ l.initial.self.shape;
   doubted : l.settler.doubted ≡ l.initial.settler.doubted;
-  safe : IsSafe g.H.Host.tells l.settler.writer (g.H.Host.world l.host);
-  ready : StaysReady (g.H.Host.is_ready l.initial.host) (g.H.Host.is_ready l.host);
+  safe : StaysSafe g.H.Host.tells g.H.Host.is_ready g.H.Host.world l.settler.writer l.initial.host l.host;
   beside : TurnsBeside {T = Bool} g.H.Host.tells (stage_of g.H.Host.world g.H.Host.faults (run_of l.initial.core) l.initial.settler l.initial.host) (stage_of g.H.Host.world g.H.Host.faults (run_of l.core) l.settler l.host) (Ok true);
   went : (o : Outset) (b : Books) (lines : List Line) (width : ℕ) (picks : List ℕ) → IsUnderWay g.H.Host.tells o (program_tree l.checked) lines width picks b (turn_stage (stage_of g.H.Host.world g.H.Host.faults (run_of l.initial.core) l.initial.settler l.initial.host) l.initial.self)
       → has_room (loop_at o (run_of l.initial.core) l.initial.self.agents.list.items l.initial.self.used no_pass) ≡ false

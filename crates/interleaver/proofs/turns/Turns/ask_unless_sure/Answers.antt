@@ -126,3 +126,75 @@ returns-in_err-ask_one-clause-leaves g c = record { same = c.ask_one.ensures.lea
 
 pub returns-clause-leaves : goal.returns-clause-leaves
 returns-clause-leaves g c = record { same = c.ask_one.ensures.leaves.same ∙ c.has_grain.ensures.units; front = c.ask_one.ensures.leaves.front; begun = c.ask_one.ensures.leaves.begun; used = c.ask_one.ensures.leaves.used; shape = c.ask_one.ensures.leaves.shape; doubted = c.ask_one.ensures.leaves.doubted }
+
+pub returns-then-is_sure-clause-units : goal.returns-then-is_sure-clause-units
+returns-then-is_sure-clause-units g c = c.requires.units
+
+pub returns-then-is_sure-clause-space : goal.returns-then-is_sure-clause-space
+returns-then-is_sure-clause-space g c = c.requires.space
+
+pub returns-then-is_sure-clause-safe : goal.returns-then-is_sure-clause-safe
+returns-then-is_sure-clause-safe g c = record { safe = c.requires.safe; ready = λ file was. was }
+
+pub returns-in_err-here-clause-units : goal.returns-in_err-here-clause-units
+returns-in_err-here-clause-units g c = let q = err_from_is_err_and c.from_residual.result c.from_residual.ensures.1 in rw q.1 tt
+
+pub returns-in_err-here-clause-space : goal.returns-in_err-here-clause-space
+returns-in_err-here-clause-space g c = let q = err_from_is_err_and c.from_residual.result c.from_residual.ensures.1 in rw q.1 tt
+
+pub returns-in_err-here-clause-lacks : goal.returns-in_err-here-clause-lacks
+returns-in_err-here-clause-lacks g c = let q = err_from_is_err_and c.from_residual.result c.from_residual.ensures.1 in rw q.1 tt
+
+pub returns-in_err-here-clause-safe : goal.returns-in_err-here-clause-safe
+returns-in_err-here-clause-safe g c = record { safe = c.requires.safe; ready = λ file was. was }
+
+pub returns-then-here-clause-safe : goal.returns-then-here-clause-safe
+returns-then-here-clause-safe g c = record { safe = c.requires.safe; ready = λ file was. was }
+
+pub returns-in_err-ask_one-clause-units : goal.returns-in_err-ask_one-clause-units
+returns-in_err-ask_one-clause-units g c = let q = err_from_is_err_and c.from_residual-in_err-ask_one.result c.from_residual-in_err-ask_one.ensures.1 in rw q.1 tt
+
+pub returns-in_err-ask_one-clause-space : goal.returns-in_err-ask_one-clause-space
+returns-in_err-ask_one-clause-space g c = let q = err_from_is_err_and c.from_residual-in_err-ask_one.result c.from_residual-in_err-ask_one.ensures.1 in rw q.1 tt
+
+pub returns-in_err-ask_one-clause-lacks : goal.returns-in_err-ask_one-clause-lacks
+returns-in_err-ask_one-clause-lacks g c = let q = err_from_is_err_and c.from_residual-in_err-ask_one.result c.from_residual-in_err-ask_one.ensures.1 in rw q.1 tt
+
+pub returns-in_err-ask_one-clause-safe : goal.returns-in_err-ask_one-clause-safe
+returns-in_err-ask_one-clause-safe g c = c.ask_one.ensures.safe
+
+pub returns-clause-units : goal.returns-clause-units
+returns-clause-units g c = c.in_ok-ask_one.ensures.units
+
+pub returns-clause-space : goal.returns-clause-space
+returns-clause-space g c = λ some. let none = c.ask_one.ensures.unsure in absurd (omega (arith, some, none))
+
+pub returns-clause-lacks : goal.returns-clause-lacks
+returns-clause-lacks g c = λ is. cc
+
+pub returns-clause-safe : goal.returns-clause-safe
+returns-clause-safe g c = c.ask_one.ensures.safe
+
+pub ask_one-requires-clause-within : goal.ask_one-requires-clause-within
+ask_one-requires-clause-within g c =
+    let many = many-same c.has_grain.new.self.list.items c.args.self.now.agents.list.items c.has_grain.ensures.units in
+    let within = c.requires.within in
+    omega (arith, many, within)
+
+pub ask_one-requires-clause-front : goal.ask_one-requires-clause-front
+ask_one-requires-clause-front g c = c.requires.front
+
+pub ask_one-requires-clause-unsure : goal.ask_one-requires-clause-unsure
+ask_one-requires-clause-unsure g c = refl
+
+pub ask_one-requires-clause-shape : goal.ask_one-requires-clause-shape
+ask_one-requires-clause-shape g c = c.requires.shape
+
+pub ask_one-requires-clause-safe : goal.ask_one-requires-clause-safe
+ask_one-requires-clause-safe g c = c.requires.safe
+
+pub has_grain-requires-clause-carried : goal.has_grain-requires-clause-carried
+has_grain-requires-clause-carried g c = c.requires.units.carried
+
+pub has_grain-requires-clause-within : goal.has_grain-requires-clause-within
+has_grain-requires-clause-within g c = c.requires.within

@@ -46,3 +46,24 @@ returns-in_err-ask_all-clause-passes g c =
     subst (λ (x : Result Bool RunFault). PassGoesOn {T = Bool} g.H.Host.tells (program_tree c.args.checked.now) (turn_stage (stage_of g.H.Host.world g.H.Host.faults (run_of c.args.core.now) c.args.settler.now c.args.host.now) c.args.self.now) (stage_of g.H.Host.world g.H.Host.faults (run_of c.ask_all.new.core) c.ask_all.new.settler c.ask_all.new.host) c.ask_all.new.self x) c.in_err-ask_all.was c.ask_all.ensures.passes in
     subst (λ (x : Result Unit RunFault). PassGoesOn {T = Unit} g.H.Host.tells (program_tree c.args.checked.now) (turn_stage (stage_of g.H.Host.world g.H.Host.faults (run_of c.args.core.now) c.args.settler.now c.args.host.now) c.args.self.now) (stage_of g.H.Host.world g.H.Host.faults (run_of c.ask_all.new.core) c.ask_all.new.settler c.ask_all.new.host) c.ask_all.new.self x) (sym (q.1 ∙ ap Err q.2))
     (passes-failed {T = Bool} {U = Unit} g.H.Host.tells (program_tree c.args.checked.now) (turn_stage (stage_of g.H.Host.world g.H.Host.faults (run_of c.args.core.now) c.args.settler.now c.args.host.now) c.args.self.now) (stage_of g.H.Host.world g.H.Host.faults (run_of c.ask_all.new.core) c.ask_all.new.settler c.ask_all.new.host) c.ask_all.new.self c.in_err-ask_all.field-0.0 failed)
+
+pub returns-then-not-can_miss-clause-units : goal.returns-then-not-can_miss-clause-units
+returns-then-not-can_miss-clause-units g c = c.requires.units
+
+pub returns-then-not-can_miss-clause-safe : goal.returns-then-not-can_miss-clause-safe
+returns-then-not-can_miss-clause-safe g c = record { safe = c.requires.safe; ready = λ file was. was }
+
+pub returns-in_err-ask_all-clause-units : goal.returns-in_err-ask_all-clause-units
+returns-in_err-ask_all-clause-units g c = let q = err_from_is_err_and c.from_residual.result c.from_residual.ensures.1 in rw q.1 tt
+
+pub returns-in_err-ask_all-clause-begun : goal.returns-in_err-ask_all-clause-begun
+returns-in_err-ask_all-clause-begun g c = c.ask_all.ensures.begun
+
+pub returns-in_err-ask_all-clause-used : goal.returns-in_err-ask_all-clause-used
+returns-in_err-ask_all-clause-used g c = c.ask_all.ensures.used
+
+pub returns-in_err-ask_all-clause-shape : goal.returns-in_err-ask_all-clause-shape
+returns-in_err-ask_all-clause-shape g c = c.ask_all.ensures.shape
+
+pub returns-in_err-ask_all-clause-safe : goal.returns-in_err-ask_all-clause-safe
+returns-in_err-ask_all-clause-safe g c = c.ask_all.ensures.safe

@@ -1,4 +1,4 @@
-use Rattle.std.proofs.Common.{◌≡◌, ℕ, ◌+◌, ◌∙◌, refl, sym, ap, subst, true, false, Bool, length}
+use Rattle.std.proofs.Common.{◌≡◌, ℕ, ◌+◌, ◌∙◌, refl, sym, ap, subst, arith, true, false, Bool, length}
 use Rattle.std.specs.Prelude.{Result, Ok, Err}
 use Rattle.core_model.specs.LegalRuns.{Run, ends}
 use Rattle.core_model.specs.Settler.{has_step, settler_step}
@@ -143,3 +143,71 @@ returns-in_ok-settle-in-Settler-clause-turns g c = record {
 
 pub move_unit-requires-clause-within : goal.move_unit-requires-clause-within
 move_unit-requires-clause-within g c = subst (λ (m : NextMover). MovesWithin m (length c.next_mover.new.agents.list.items)) c.in-Unit.is c.in_ok-next_mover.ensures.within
+
+pub returns-in_err-next_mover-clause-units : goal.returns-in_err-next_mover-clause-units
+returns-in_err-next_mover-clause-units g c = let q = err_from_is_err_and c.from_residual.result c.from_residual.ensures.1 in rw q.1 tt
+
+pub returns-in_err-next_mover-clause-used : goal.returns-in_err-next_mover-clause-used
+returns-in_err-next_mover-clause-used g c = let q = err_from_is_err_and c.from_residual.result c.from_residual.ensures.1 in rw q.1 tt
+
+pub returns-in_err-next_mover-clause-goes : goal.returns-in_err-next_mover-clause-goes
+returns-in_err-next_mover-clause-goes g c = let q = err_from_is_err_and c.from_residual.result c.from_residual.ensures.1 in rw q.1 tt
+
+pub returns-in_err-next_mover-clause-safe : goal.returns-in_err-next_mover-clause-safe
+returns-in_err-next_mover-clause-safe g c = record { safe = c.requires.safe; ready = λ file was. was }
+
+pub returns-in-Nobody-clause-goes : goal.returns-in-Nobody-clause-goes
+returns-in-Nobody-clause-goes g c = λ is. cc
+
+pub returns-in-Nobody-clause-safe : goal.returns-in-Nobody-clause-safe
+returns-in-Nobody-clause-safe g c = record { safe = c.requires.safe; ready = λ file was. was }
+
+pub returns-in_err-settle-in-Settler-clause-units : goal.returns-in_err-settle-in-Settler-clause-units
+returns-in_err-settle-in-Settler-clause-units g c = let q = err_from_is_err_and c.from_residual-in_err-settle-in-Settler.result c.from_residual-in_err-settle-in-Settler.ensures.1 in rw q.1 tt
+
+pub returns-in_err-settle-in-Settler-clause-used : goal.returns-in_err-settle-in-Settler-clause-used
+returns-in_err-settle-in-Settler-clause-used g c = let q = err_from_is_err_and c.from_residual-in_err-settle-in-Settler.result c.from_residual-in_err-settle-in-Settler.ensures.1 in rw q.1 tt
+
+pub returns-in_err-settle-in-Settler-clause-goes : goal.returns-in_err-settle-in-Settler-clause-goes
+returns-in_err-settle-in-Settler-clause-goes g c = let q = err_from_is_err_and c.from_residual-in_err-settle-in-Settler.result c.from_residual-in_err-settle-in-Settler.ensures.1 in rw q.1 tt
+
+pub returns-in_err-settle-in-Settler-clause-safe : goal.returns-in_err-settle-in-Settler-clause-safe
+returns-in_err-settle-in-Settler-clause-safe g c = c.settle.ensures.safe
+
+pub returns-in_ok-settle-in-Settler-clause-safe : goal.returns-in_ok-settle-in-Settler-clause-safe
+returns-in_ok-settle-in-Settler-clause-safe g c = c.settle.ensures.safe
+
+pub returns-in_err-move_unit-in-Unit-clause-units : goal.returns-in_err-move_unit-in-Unit-clause-units
+returns-in_err-move_unit-in-Unit-clause-units g c = let q = err_from_is_err_and c.from_residual-in_err-move_unit-in-Unit.result c.from_residual-in_err-move_unit-in-Unit.ensures.1 in rw q.1 tt
+
+pub returns-in_err-move_unit-in-Unit-clause-used : goal.returns-in_err-move_unit-in-Unit-clause-used
+returns-in_err-move_unit-in-Unit-clause-used g c = let q = err_from_is_err_and c.from_residual-in_err-move_unit-in-Unit.result c.from_residual-in_err-move_unit-in-Unit.ensures.1 in rw q.1 tt
+
+pub returns-in_err-move_unit-in-Unit-clause-goes : goal.returns-in_err-move_unit-in-Unit-clause-goes
+returns-in_err-move_unit-in-Unit-clause-goes g c = let q = err_from_is_err_and c.from_residual-in_err-move_unit-in-Unit.result c.from_residual-in_err-move_unit-in-Unit.ensures.1 in rw q.1 tt
+
+pub returns-in_err-move_unit-in-Unit-clause-shape : goal.returns-in_err-move_unit-in-Unit-clause-shape
+returns-in_err-move_unit-in-Unit-clause-shape g c = c.move_unit.ensures.shape
+
+pub returns-in_err-move_unit-in-Unit-clause-safe : goal.returns-in_err-move_unit-in-Unit-clause-safe
+returns-in_err-move_unit-in-Unit-clause-safe g c = record { safe = c.requires.safe; ready = λ file was. was }
+
+pub returns-in_ok-move_unit-in-Unit-clause-units : goal.returns-in_ok-move_unit-in-Unit-clause-units
+returns-in_ok-move_unit-in-Unit-clause-units g c = record {
+  carried = c.in_ok-move_unit-in-Unit.ensures.units.carried;
+  looked = c.in_ok-move_unit-in-Unit.ensures.units.looked;
+  freed = c.in_ok-move_unit-in-Unit.ensures.units.freed;
+  sure = c.in_ok-move_unit-in-Unit.ensures.units.sure;
+}
+
+pub returns-in_ok-move_unit-in-Unit-clause-used : goal.returns-in_ok-move_unit-in-Unit-clause-used
+returns-in_ok-move_unit-in-Unit-clause-used g c = let used = c.move_unit.ensures.used in omega (arith, used)
+
+pub returns-in_ok-move_unit-in-Unit-clause-goes : goal.returns-in_ok-move_unit-in-Unit-clause-goes
+returns-in_ok-move_unit-in-Unit-clause-goes g c = λ is. let used = c.move_unit.ensures.used in let begun = c.move_unit.ensures.begun in omega (arith, used, begun)
+
+pub returns-in_ok-move_unit-in-Unit-clause-shape : goal.returns-in_ok-move_unit-in-Unit-clause-shape
+returns-in_ok-move_unit-in-Unit-clause-shape g c = c.move_unit.ensures.shape
+
+pub returns-in_ok-move_unit-in-Unit-clause-safe : goal.returns-in_ok-move_unit-in-Unit-clause-safe
+returns-in_ok-move_unit-in-Unit-clause-safe g c = record { safe = c.requires.safe; ready = λ file was. was }

@@ -1,4 +1,4 @@
-use Rattle.std.proofs.Common.{◌∙◌, refl, sym, ap, true}
+use Rattle.std.proofs.Common.{◌∙◌, refl, sym, ap, arith, true}
 use Rattle.std.specs.Prelude.{Ok, Err}
 use Rattle.std.proofs.lemmas.Result.{err_from_is_err_and}
 use Rattle.history_core.specs.Cores.{run_of}
@@ -83,3 +83,72 @@ drop_unless_doubted-requires-clause-looked g c = c.requires.units.looked
 
 pub drop_unless_doubted-requires-clause-freed : goal.drop_unless_doubted-requires-clause-freed
 drop_unless_doubted-requires-clause-freed g c = c.requires.units.freed
+
+pub returns-in_err-line-clause-units : goal.returns-in_err-line-clause-units
+returns-in_err-line-clause-units g c = let p = err_from_is_err_and c.from_residual.result c.from_residual.ensures.1 in rw p.1 tt
+
+pub returns-in_err-line-clause-used : goal.returns-in_err-line-clause-used
+returns-in_err-line-clause-used g c = let p = err_from_is_err_and c.from_residual.result c.from_residual.ensures.1 in rw p.1 tt
+
+pub returns-in_err-line-clause-goes : goal.returns-in_err-line-clause-goes
+returns-in_err-line-clause-goes g c = let p = err_from_is_err_and c.from_residual.result c.from_residual.ensures.1 in rw p.1 tt
+
+pub returns-in_err-line-clause-same : goal.returns-in_err-line-clause-same
+returns-in_err-line-clause-same g c = c.next_line.ensures.same
+
+pub returns-in_err-line-clause-safe : goal.returns-in_err-line-clause-safe
+returns-in_err-line-clause-safe g c = record { safe = c.requires.safe; ready = λ file was. was }
+
+pub returns-in_err-begin-in-Some-clause-units : goal.returns-in_err-begin-in-Some-clause-units
+returns-in_err-begin-in-Some-clause-units g c = let p = err_from_is_err_and c.from_residual-in_err-begin-in-Some.result c.from_residual-in_err-begin-in-Some.ensures.1 in rw p.1 tt
+
+pub returns-in_err-begin-in-Some-clause-used : goal.returns-in_err-begin-in-Some-clause-used
+returns-in_err-begin-in-Some-clause-used g c = let p = err_from_is_err_and c.from_residual-in_err-begin-in-Some.result c.from_residual-in_err-begin-in-Some.ensures.1 in rw p.1 tt
+
+pub returns-in_err-begin-in-Some-clause-goes : goal.returns-in_err-begin-in-Some-clause-goes
+returns-in_err-begin-in-Some-clause-goes g c = let p = err_from_is_err_and c.from_residual-in_err-begin-in-Some.result c.from_residual-in_err-begin-in-Some.ensures.1 in rw p.1 tt
+
+pub returns-in_err-begin-in-Some-clause-same : goal.returns-in_err-begin-in-Some-clause-same
+returns-in_err-begin-in-Some-clause-same g c = c.next_line.ensures.same
+
+pub returns-in_err-begin-in-Some-clause-shape : goal.returns-in_err-begin-in-Some-clause-shape
+returns-in_err-begin-in-Some-clause-shape g c = c.begin.ensures.shape
+
+pub returns-in_err-begin-in-Some-clause-safe : goal.returns-in_err-begin-in-Some-clause-safe
+returns-in_err-begin-in-Some-clause-safe g c = record { safe = c.requires.safe; ready = λ file was. was }
+
+pub returns-in_ok-begin-in-Some-clause-units : goal.returns-in_ok-begin-in-Some-clause-units
+returns-in_ok-begin-in-Some-clause-units g c = c.in_ok-begin-in-Some.ensures.units
+
+pub returns-in_ok-begin-in-Some-clause-used : goal.returns-in_ok-begin-in-Some-clause-used
+returns-in_ok-begin-in-Some-clause-used g c = let used = c.begin.ensures.used in omega (arith, used)
+
+pub returns-in_ok-begin-in-Some-clause-goes : goal.returns-in_ok-begin-in-Some-clause-goes
+returns-in_ok-begin-in-Some-clause-goes g c = λ is. let used = c.begin.ensures.used in let begun = c.in_ok-begin-in-Some.ensures.begun in omega (arith, used, begun)
+
+pub returns-in_ok-begin-in-Some-clause-same : goal.returns-in_ok-begin-in-Some-clause-same
+returns-in_ok-begin-in-Some-clause-same g c = c.next_line.ensures.same
+
+pub returns-in_ok-begin-in-Some-clause-shape : goal.returns-in_ok-begin-in-Some-clause-shape
+returns-in_ok-begin-in-Some-clause-shape g c = c.begin.ensures.shape
+
+pub returns-in_ok-begin-in-Some-clause-safe : goal.returns-in_ok-begin-in-Some-clause-safe
+returns-in_ok-begin-in-Some-clause-safe g c = record { safe = c.requires.safe; ready = λ file was. was }
+
+pub returns-in-None-clause-units : goal.returns-in-None-clause-units
+returns-in-None-clause-units g c = c.move_one.ensures.units
+
+pub returns-in-None-clause-used : goal.returns-in-None-clause-used
+returns-in-None-clause-used g c = c.move_one.ensures.used
+
+pub returns-in-None-clause-goes : goal.returns-in-None-clause-goes
+returns-in-None-clause-goes g c = c.move_one.ensures.goes
+
+pub returns-in-None-clause-same : goal.returns-in-None-clause-same
+returns-in-None-clause-same g c = c.next_line.ensures.same
+
+pub returns-in-None-clause-shape : goal.returns-in-None-clause-shape
+returns-in-None-clause-shape g c = c.move_one.ensures.shape
+
+pub returns-in-None-clause-safe : goal.returns-in-None-clause-safe
+returns-in-None-clause-safe g c = c.move_one.ensures.safe

@@ -41,12 +41,18 @@ returns-in-Load-clause-made g c = λ w shown. c.bring_in.ensures.made w (settler
 
 pub returns-in-Load-clause-safe : goal.returns-in-Load-clause-safe
 returns-in-Load-clause-safe g c = record {
-  bounds = c.requires.safe.bounds;
-  fits = λ told. subst (FitsDisk c.args.self.now.writer) (sym (c.bring_in.ensures.asked told).disk) (c.requires.safe.fits told);
+  safe = record {
+    bounds = c.requires.safe.bounds;
+    fits = λ told. subst (FitsDisk c.args.self.now.writer) (sym (c.bring_in.ensures.asked told).disk) (c.requires.safe.fits told);
+  };
+  ready = c.bring_in.ensures.ready;
 }
 
 pub returns-in-Write-clause-safe : goal.returns-in-Write-clause-safe
 returns-in-Write-clause-safe g c = record {
-  bounds = c.requires.safe.bounds;
-  fits = λ told. subst (FitsDisk c.args.self.now.writer) (sym (c.write.ensures.disk told)) (c.requires.safe.fits told);
+  safe = record {
+    bounds = c.requires.safe.bounds;
+    fits = λ told. subst (FitsDisk c.args.self.now.writer) (sym (c.write.ensures.disk told)) (c.requires.safe.fits told);
+  };
+  ready = c.write.ensures.ready;
 }

@@ -50,3 +50,6 @@ returns-in-Stopped-clause-turns g c =
     let is : wanted_step (state_shown t) ≡ Loads c.in-Some.grain = ap load_of (sym c.in_ok-grain.ensures.wanted ∙ c.in-Some.is) in
     stops g.H.Host.tells g.H.Host.world g.H.Host.faults g.A.Access.may_come c.args.shape.now wanted_step (g.A.Access.sight c.args.access.now) t c.args.self.now c.args.self.now c.args.host.now c.bring_in.new.host
     c.see_wanted.ensures.looked c.bring_in.result c.in-Ok.made c.in-Ok.is c.in-Stopped.cause c.in-Stopped.is (c.bring_in.ensures.made (state_shown t) (wanted_step (state_shown t)) is)
+
+pub returns-in-Event-clause-kept : goal.returns-in-Event-clause-kept
+returns-in-Event-clause-kept g c = record { fit = c.tell.ensures.kept.fit; aside = c.tell.ensures.kept.aside ∙ c.see_wanted.ensures.kept.aside }

@@ -1,6 +1,8 @@
-use Rattle.std.proofs.Common.{inl, refl}
+use Rattle.std.proofs.Common.{inl, refl, sym, subst, ◌∙◌}
 use Rattle.std.specs.Prelude.{Err}
 use Rattle.core_model.specs.Settler.{settler_step}
+use Rattle.batch_disk.specs.Writers.{StaysSafe}
+use Rattle.batch_disk.specs.declared.writer.BatchWriter.{BatchWriter}
 use Rattle.settle_loop.specs.SettlerStep.{state_shown}
 use Rattle.settle_loop.proofs.StepParts.{turned, acted_event, acted_idle, stops, acted_none, none_turned}
 use Rattle.settle_loop.proofs.settler.Settler.step.Goals as goal
@@ -39,3 +41,9 @@ returns-in-Stopped-clause-turns g c =
     let t = g.A.Access.sight c.look.new.access in
     stops g.H.Host.tells g.H.Host.world g.H.Host.faults g.A.Access.may_come c.args.shape.now settler_step (g.A.Access.sight c.args.access.now) t c.args.self.now c.act.new.self c.args.host.now c.act.new.host
     c.look.ensures.looked c.act.result c.in-Ok.made c.in-Ok.is c.in-Stopped.cause c.in-Stopped.is (c.act.ensures.made (state_shown t) c.in_ok-work.ensures.work)
+
+pub returns-in-Event-clause-kept : goal.returns-in-Event-clause-kept
+returns-in-Event-clause-kept g c = record { fit = c.tell.ensures.kept.fit; aside = c.tell.ensures.kept.aside ∙ c.look.ensures.kept.aside }
+
+pub returns-in-Event-clause-safe : goal.returns-in-Event-clause-safe
+returns-in-Event-clause-safe g c = subst (λ (w : BatchWriter). StaysSafe g.H.Host.tells g.H.Host.is_ready g.H.Host.world w c.args.host.now c.act.new.host) (sym c.tell.ensures.writer) c.act.ensures.safe

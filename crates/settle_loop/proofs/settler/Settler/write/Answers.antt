@@ -10,12 +10,12 @@ pub returns-then-self-clause-made : goal.returns-then-self-clause-made
 returns-then-self-clause-made g c = λ w shown.
     let a = c.args.self.now in
     let h = c.args.host.now in
-    write_made g.H.Host.tells g.H.Host.world g.H.Host.faults c.args.shape.now w a a h h refl c.args.entry shown
+    write_made g.H.Host.tells g.H.Host.world g.H.Host.faults c.args.shape.now w a a h h refl c.args.entry.now shown
     (record {
-      entry = c.args.entry;
-      range = record { line = search; unit = c.read_unit.ensures; said = c.read_said.ensures };
+      entry = c.args.entry.now;
+      range = record { line = c.read_line.ensures; unit = c.read_unit.ensures; said = c.read_said.ensures };
       next = shown.1;
-      line = subst (λ (q : Bool). HasLine g.H.Host.tells g.H.Host.world g.H.Host.faults q c.args.shape.now c.args.entry h h) (sym c.if-self.true) refl;
+      line = subst (λ (q : Bool). HasLine g.H.Host.tells g.H.Host.world g.H.Host.faults q c.args.shape.now c.args.entry.now h h) (sym c.if-self.true) refl;
       writer = refl;
     })
 
@@ -30,12 +30,12 @@ returns-in-Ok-clause-made g c = λ w shown.
     let a = c.args.self.now in
     let h0 = c.args.host.now in
     let h1 = c.emit.new.self in
-    write_made g.H.Host.tells g.H.Host.world g.H.Host.faults c.args.shape.now w a a h0 h1 refl c.args.entry shown
+    write_made g.H.Host.tells g.H.Host.world g.H.Host.faults c.args.shape.now w a a h0 h1 refl c.args.entry.now shown
     (record {
-      entry = c.args.entry;
-      range = record { line = search; unit = c.read_unit.ensures; said = c.read_said.ensures };
+      entry = c.args.entry.now;
+      range = record { line = c.read_line.ensures; unit = c.read_unit.ensures; said = c.read_said.ensures };
       next = shown.1;
-      line = subst (λ (q : Bool). HasLine g.H.Host.tells g.H.Host.world g.H.Host.faults q c.args.shape.now c.args.entry h0 h1) (sym c.if-self.false)
+      line = subst (λ (q : Bool). HasLine g.H.Host.tells g.H.Host.world g.H.Host.faults q c.args.shape.now c.args.entry.now h0 h1) (sym c.if-self.false)
           (c.emit.ensures.faults.calm (ap is_ok c.in-Ok.is), λ told. subst (λ (l : List ℕ). IsEmitted l (g.H.Host.world h0) (g.H.Host.world h1)) (c.as_slice.ensures ∙ c.in_ok-text.ensures) (c.in-Ok.ensures.ok told));
       writer = refl;
     })
