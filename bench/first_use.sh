@@ -1,13 +1,13 @@
 #!/usr/bin/env bash
 # Times a silo of many written grains, its opening and a run that touches a few of them, and runs that use the same grains again and again:
-#   bench/first_use.sh [GRAINS] [TOUCHED] [PLACE] [FREE]
+#   bench/first_use.sh [GRAINS] [TOUCHED] [PLACE] [FREE] [TRANSFERS]
 # The folder is made by docs/FORMATS.md alone, beneath PLACE (/tmp): of each of so many accounts (1,000,000) a version, in a file of its own,
 # and a record, 64 in a block. It has a file a grain: some 4 KB of a disk each, and some minutes to make and to delete them.
 # - the opening is a run of no line, three times;
 # - TOUCHED accounts (5,000), spread over all, are read by a line each, and then the last 4,000 of them once more, in one run at width 64,
 #   three times. Each of these runs adds its lines to the log;
-# - 20,000 transfers among 64 accounts at width 64, and `load 20000 7 --width 8`, each five times in new silos at FREE (/dev/shm), a memory
-#   file system where there is one, so that syncs cost nothing.
+# - so many TRANSFERS (20,000) among 64 accounts at width 64, and a `load` of as many at width 8, each five times in new silos at FREE
+#   (/dev/shm), a memory file system where there is one, so that syncs cost nothing.
 # Told is the least of each, of the clock and of the processor's time, the most memory that the process had, and the reads that the system
 # counted (`/proc/PID/io`: lines and other files too, a few). The bytes a grain are those of the opening beyond an empty silo's; the reads of
 # the touched ones are those beyond the opening's. It ends with 1 where a run isn't answered as it has to be. SILO names another program.
@@ -30,6 +30,7 @@ top, words = sys.argv[1], sys.argv[2:]
 grains, touched = (int(words[at]) if len(words) > at else count for at, count in enumerate((1_000_000, 5_000)))
 place = words[2] if len(words) > 2 else "/tmp"
 free = words[3] if len(words) > 3 else "/dev/shm" if os.path.isdir("/dev/shm") else place
+count = int(words[4]) if len(words) > 4 else 20_000
 program = os.environ.get("SILO", os.path.join(top, "crates", "silo", "out", "silo"))
 sys.path.insert(0, os.path.join(top, "bench"))
 from bank_lines import bank, transfers
@@ -138,7 +139,7 @@ with tempfile.TemporaryDirectory(dir=place) as room:
     tell(f"{len(set(keys)):,} of them read, some twice", least(told), f", {least(told).reads - opened.reads:,} beyond an opening's")
     shutil.rmtree(folder)
 
-lines = b"".join(transfers(20_000))
-tell("20,000 transfers at width 64", least([new_silo(free, "run", "--width", "64", given=lines)[1] for _ in range(5)]))
-tell("load 20000 7 --width 8", least([new_silo(free, "load", "20000", "7", "--width", "8")[1] for _ in range(5)]))
+lines, load = b"".join(transfers(count)), ("load", str(count), "7", "--width", "8")
+tell(f"{count:,} transfers at width 64", least([new_silo(free, "run", "--width", "64", given=lines)[1] for _ in range(5)]))
+tell(" ".join(load), least([new_silo(free, *load)[1] for _ in range(5)]))
 END

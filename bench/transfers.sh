@@ -1,7 +1,8 @@
 #!/usr/bin/env bash
 # Times a run of N transfers over 64 accounts, with so many lines under way at a time, in a new silo:
-#   bench/transfers.sh N WIDTH [PLACE]
-# The silo stands in a new folder at PLACE, which is /tmp where it isn't given; one on a memory file system has syncs that cost nothing.
+#   bench/transfers.sh [N] [WIDTH] [PLACE]
+# Where they aren't given N is 20,000, WIDTH 64, and PLACE /tmp. The silo stands in a new folder there; one on a memory file system has syncs
+# that cost nothing.
 # Prints the requests a second, the syncs, how long as many bare syncs take, each behind an append of 4 KiB in the same folder, the
 # ratio of the two times, and the peak of the run's memory. The syncs are the opening's and, for each batch of the log, one for each
 # file that it wrote and two of the log.
@@ -22,8 +23,9 @@ top=$(cd "$(dirname "${BASH_SOURCE[0]}")/.." && pwd)
 exec python3 - "$top" "${SILO:-$top/crates/silo/out/silo}" "$@" <<'END'
 import os, resource, subprocess, sys, tempfile, time
 
-top, program, count, width = sys.argv[1], sys.argv[2], int(sys.argv[3]), sys.argv[4]
-place = sys.argv[5] if len(sys.argv) > 5 else "/tmp"
+top, program, *words = sys.argv[1:]
+count, width, place = words + ["20000", "64", "/tmp"][len(words):]
+count = int(count)
 sys.path.insert(0, os.path.join(top, "examples", "reader"))
 import read
 

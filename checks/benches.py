@@ -14,7 +14,7 @@ with tempfile.TemporaryDirectory() as room:
         ("workers.sh", "100", room, room),
         ("peers.py", "100", room, room),
         ("starts.py", "200", room, room),
-        ("first_use.sh", "100", "10", room, room),
+        ("first_use.sh", "100", "10", room, room, "100"),
         ("windows.sh", "100"),
         ("compact.py", room, "10", "100"),
         ("upgrades.py", "100", "2"),
@@ -23,7 +23,7 @@ with tempfile.TemporaryDirectory() as room:
         ("fairness.sh", "1", room),
         ("check.sh", "100"),
     ]:
-        done = subprocess.run([os.path.join(TOP, "bench", name), *words], env={**os.environ, "SILO": PROGRAM}, stdin=subprocess.DEVNULL, capture_output=True, timeout=300)
+        done = subprocess.run([os.path.join(TOP, "bench", name), *words], env={**os.environ, "SILO": PROGRAM}, stdin=subprocess.DEVNULL, capture_output=True, timeout=1200)
         printed = done.stdout.decode()
         rows.row(" ".join([name, *words]), (done.stderr.decode(), any(map(str.isdigit, printed)), "Traceback" in printed), ("", True, False))
 

@@ -5,19 +5,11 @@ import os
 import random
 import tempfile
 
-from harness import BANK, Ended, Rows, deposit, run
+from harness import BANK, Rows, deposit, run, says, silent
 from plain_silos import line
 
 rows = Rows("commits")
 LARGEST = (1 << 64) - 1
-
-
-def silent(output=b""):
-    return Ended(0, output, b"")
-
-
-def says(number, text, output=b""):
-    return Ended(number, output, b"silo: " + text + b"\n")
 
 
 def contents(path):

@@ -7,7 +7,7 @@ import sys
 import tempfile
 import time
 
-from harness import BANK, PROGRAM, TOP, Ended, Rows, ask, deposit, reply, run
+from harness import BANK, PROGRAM, TOP, Rows, ask, deposit, held, reply, run, says, silent
 
 READER = os.path.join(TOP, "examples", "reader", "read.py")
 KILLS = 100
@@ -16,20 +16,11 @@ GRAINS = 200
 rows = Rows("compact")
 
 
-def silent(output=b""):
-    return Ended(0, output, b"")
-
-
 def states(folder):
     """What `show` says, and what a reader of the bytes says of states and the next unit."""
     shown = run(folder, "show")
     read = subprocess.run([sys.executable, READER, folder], capture_output=True)
     return shown, [line for line in read.stdout.splitlines() if b'"grain"' in line or b'"next_unit"' in line], read.returncode
-
-
-def held(folder, name):
-    with open(os.path.join(folder, name), "rb") as file:
-        return file.read()
 
 
 def first_bytes(folder):
@@ -122,13 +113,13 @@ with tempfile.TemporaryDirectory() as room:
     rows.row("states in the end", run(kept, "show"), silent(wanted))
 
     # What is no silo can't be written anew, nor one into whose other slot nothing can be written: it stays as it was.
-    rows.row("compact of no folder", run(os.path.join(room, "missing"), "compact"), Ended(7, b"", b"silo: not a silo\n"))
+    rows.row("compact of no folder", run(os.path.join(room, "missing"), "compact"), says(7, b"not a silo"))
     odd = os.path.join(room, "odd")
     shutil.copytree(kept, odd)
     other = 1 - live_of(first_bytes(odd))
     os.remove(os.path.join(odd, f"program-{other}.otx"))
     os.mkdir(os.path.join(odd, f"program-{other}.otx"))
-    rows.row("compact over no file", run(odd, "compact"), Ended(6, b"", b"silo: disk fault in program-%d.otx\n" % other))
+    rows.row("compact over no file", run(odd, "compact"), says(6, b"disk fault in program-%d.otx" % other))
     rows.row("its states", run(odd, "show"), silent(wanted))
 
 rows.end()

@@ -19,7 +19,7 @@ import sys
 import tempfile
 
 from harness import TOP, Rows, run
-from plain_player import ABORTED, Method, Type, place_of, play, text_of
+from plain_player import ABORTED, Method, Type, play, text_of
 
 sys.path.insert(0, os.path.join(TOP, "examples", "reader"))
 import read  # noqa: E402

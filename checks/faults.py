@@ -15,7 +15,7 @@ import tempfile
 
 import kept
 import shim
-from harness import Rows, make_old, run
+from harness import Rows, files, make_old, run
 
 MEMORY = "/dev/shm" if os.path.isdir("/dev/shm") else None
 # Of so many calls one is tried, in a check that isn't told to try all of them, beside the first of each kind on each kind of file.
@@ -119,7 +119,7 @@ class Report(Case):
         wrong = kept.wrong_number(ended, failed)
         if not whole.startswith(ended.output) or (ended.number == 0 and ended.output != whole):
             wrong.append(f"it printed {ended.output}")
-        if bytes_of(folder) != bytes_of(self.template):
+        if files(folder) != files(self.template):
             wrong.append("a file was changed")
         return wrong
 
@@ -233,15 +233,6 @@ class Load(Case):
         elif not SUMMARY_LINE.startswith(ended.output[:1]) or ended.output.endswith(b"\n"):
             wrong.append(f"with {ended.number} it printed {ended.output}")
         return wrong
-
-
-def bytes_of(folder):
-    """What each file of a folder holds."""
-    held = {}
-    for name in sorted(os.listdir(folder)):
-        with open(os.path.join(folder, name), "rb") as file:
-            held[name] = file.read()
-    return held
 
 
 def asked_for_limits(calls):

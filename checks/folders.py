@@ -14,7 +14,7 @@ import subprocess
 import tempfile
 
 import shim
-from harness import BANK, PROGRAM, Ended, Rows, ask, deposit, run, start
+from harness import BANK, PROGRAM, Ended, Rows, ask, deposit, files, run, says, silent, start
 
 rows = Rows("folders")
 
@@ -33,25 +33,9 @@ def objects(lines):
     return [json.loads(line) for line in lines.split(b"\n")[:-1]]
 
 
-def bytes_of(folder):
-    """What each regular file of a folder holds; None where there is no folder."""
-    if not os.path.isdir(folder):
-        return None
-    held = {}
-    for name in sorted(os.listdir(folder)):
-        if os.path.isfile(os.path.join(folder, name)):
-            with open(os.path.join(folder, name), "rb") as file:
-                held[name] = file.read()
-    return held
-
-
 def history(folder):
     """The records of a folder's log, as lines of text."""
     return run(folder, "history", seconds=SECONDS).output.split(b"\n")[:-1]
-
-
-def says(number, text, output=b""):
-    return Ended(number, output, b"silo: " + text + b"\n")
 
 
 def fault_in(name):
@@ -84,7 +68,7 @@ def judged(ended, folders, numbers=(0, 6)):
         wrong.append(f"it ended with {ended.number}: {ended.errors}")
     # Its folder is that which holds what it answered; the others are as they were.
     said = with_reply(ended.output)
-    if not any(said <= logged(folder, before) and all(bytes_of(other) == held for other, _, held in folders if other != folder)
+    if not any(said <= logged(folder, before) and all(files(other) == held for other, _, held in folders if other != folder)
                for folder, before, _ in folders):
         wrong.append(f"what it answered ({sorted(said)}) isn't in one folder alone")
     return wrong
@@ -109,7 +93,7 @@ with tempfile.TemporaryDirectory() as room:
 
     def told(folder):
         """A folder with its records and bytes."""
-        return folder, history(folder), bytes_of(folder)
+        return folder, history(folder), files(folder)
 
     LINES = deposit(5) + deposit(6, 2)
 
@@ -223,9 +207,9 @@ with tempfile.TemporaryDirectory() as room:
                          ("grain-0-0-1.otx", says(9, b"damaged grain-0-0-1.otx at 0"))):
         folder = silo(LINES)
         os.remove(os.path.join(folder, name))
-        held = bytes_of(folder)
+        held = files(folder)
         for command in ("run", *REPORTS):
-            rows.row(f"{command} without {name}", (run(folder, command, given=LINES), bytes_of(folder) == held), (wanted, True))
+            rows.row(f"{command} without {name}", (run(folder, command, given=LINES), files(folder) == held), (wanted, True))
 
     # What is no file, under a file's name. The program ends, and doesn't wait for another one.
 
@@ -249,13 +233,13 @@ with tempfile.TemporaryDirectory() as room:
             folder = silo(LINES)
             path = os.path.join(folder, name)
             os.remove(path)
-            held, kept = bytes_of(folder), make(path)
+            held, kept = files(folder), make(path)
             for command in ("run", *REPORTS):
                 rows.row(f"{command} where {name} is {what}", run(folder, command, given=LINES, seconds=SECONDS), fault_in(name))
             if name == "manager-0.otx":
                 for command in (("init",), ("load", "4", "7")):
                     rows.row(f"{command[0]} where {name} is {what}", run(folder, *command, given=BANK, seconds=SECONDS), fault_in(name))
-            rows.row(f"the other files where {name} is {what}", bytes_of(folder), held)
+            rows.row(f"the other files where {name} is {what}", files(folder), held)
             if kept is not None:
                 os.close(kept)
         # Under the name of a grain's file that isn't there yet: its grain's transaction is aborted, the others go on.
@@ -263,7 +247,7 @@ with tempfile.TemporaryDirectory() as room:
         kept = make(os.path.join(folder, "grain-0-0-9.otx"))
         ended = run(folder, "run", given=deposit(4, 9) + deposit(5), seconds=SECONDS)
         wanted = b'{"aborted":"vote","grain":"account/9","n":1,"unit":3}\n{"n":2,"reply":10,"unit":4}\n'
-        rows.row(f"a new grain whose file is {what}", ended, Ended(0, wanted, b""))
+        rows.row(f"a new grain whose file is {what}", ended, silent(wanted))
         if kept is not None:
             os.close(kept)
         # `init` in a folder that isn't a silo yet.
@@ -278,7 +262,7 @@ with tempfile.TemporaryDirectory() as room:
     # A folder that may only be read: reports tell what they told before, and nothing is changed or answered as if it were logged.
 
     def only_read(what, folder, told_before, go):
-        held = bytes_of(folder)
+        held = files(folder)
         for command in REPORTS:
             rows.row(f"{command} of {what}", go(command), told_before[command])
         ended = go("run", given=LINES)
@@ -286,7 +270,7 @@ with tempfile.TemporaryDirectory() as room:
         rows.row(f"init over {what}", go("init", given=BANK).number in (6, 8), True)
         # The first thing that it writes is the other slot's header gate.
         rows.row(f"compact over {what}", go("compact"), fault_in("manager-1.otx"))
-        rows.row(f"the bytes of {what}", bytes_of(folder), held)
+        rows.row(f"the bytes of {what}", files(folder), held)
 
     program = os.path.join(room, "program")
     shutil.copy(PROGRAM, program)

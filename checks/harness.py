@@ -40,12 +40,40 @@ def reply(n, balance, unit):
     return b'{"n":%d,"reply":%d,"unit":%d}\n' % (n, balance, unit)
 
 
-def as_before(held):
+def silent(output=b""):
+    """How a run ends that does all."""
+    return Ended(0, output, b"")
+
+
+def says(number, text, output=b""):
+    """How a run ends whose status has this text."""
+    return Ended(number, output, b"silo: " + text + b"\n")
+
+
+def little(value, size):
+    """A number in so many bytes, its lowest first."""
+    return value.to_bytes(size, "little")
+
+
+def held(folder, name):
+    """The bytes of a file of a folder."""
+    with open(os.path.join(folder, name), "rb") as file:
+        return file.read()
+
+
+def files(folder):
+    """The bytes of each regular file of a folder, by its name; None where there is no folder."""
+    if not os.path.isdir(folder):
+        return None
+    return {name: held(folder, name) for name in sorted(os.listdir(folder)) if os.path.isfile(os.path.join(folder, name))}
+
+
+def as_before(manager):
     """A manager file of format 2, as it is in format 1: no block says its session."""
-    made, gate, is_checkpoint = [b"\1OTXLOG01", held[9:15]], 15, held[13] == 1
-    while held[gate] == 1:
-        size = int.from_bytes(held[gate + 1:gate + 5], "little")
-        body, at = held[gate + 5:gate + 5 + size], 17 if is_checkpoint else 0
+    made, gate, is_checkpoint = [b"\1OTXLOG01", manager[9:15]], 15, manager[13] == 1
+    while manager[gate] == 1:
+        size = int.from_bytes(manager[gate + 1:gate + 5], "little")
+        body, at = manager[gate + 5:gate + 5 + size], 17 if is_checkpoint else 0
         is_checkpoint = is_checkpoint and body[0] == 1
         made += [b"\1", (size - 8).to_bytes(4, "little"), body[:at], body[at + 8:]]
         gate += 5 + size
@@ -57,11 +85,10 @@ def make_old(folder):
     for slot in (0, 1):
         path = os.path.join(folder, f"manager-{slot}.otx")
         if os.path.exists(path):
-            with open(path, "rb") as file:
-                held = file.read()
-            if held[:9] == b"\1OTXLOG02":
+            manager = held(folder, f"manager-{slot}.otx")
+            if manager[:9] == b"\1OTXLOG02":
                 with open(path, "wb") as file:
-                    file.write(as_before(held))
+                    file.write(as_before(manager))
 
 
 def run(*words, given=b"", closed=(), streams=None, memory=None, threads=None, files=None, bound=False, on=None, shim=None, seconds=100, program=PROGRAM):

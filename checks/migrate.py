@@ -5,42 +5,20 @@ import os
 import random
 import shutil
 import subprocess
-import sys
 import tempfile
 import time
 
-from harness import BANK, PROGRAM, Ended, Rows, deposit, make_old, run, silo_folder
+from harness import BANK, PROGRAM, Rows, deposit, files, held, little, make_old, run, says, silent, silo_folder
 
 KILLS = 100
 GRAINS = 200
-OLD, NOT_OLD = Ended(14, b"", b"silo: old format\n"), Ended(15, b"", b"silo: not an old format\n")
+OLD, NOT_OLD = says(14, b"old format"), says(15, b"not an old format")
 
 # The bank whose accounts have a limit too.
 LIMIT = BANK.replace(b"  field balance = 0;\n", b"  field balance = 0;\n  field limit = 7;\n")
 NOTES = b'type note { field text = ""; method keep(t) createorjoin update { set text = t; return 1; } method get() createorjoin read { return text; } }'
 
 rows = Rows("migrate")
-
-
-def silent(output=b""):
-    return Ended(0, output, b"")
-
-
-def says(number, text):
-    return Ended(number, b"", b"silo: " + text + b"\n")
-
-
-def number(value, size):
-    return value.to_bytes(size, "little")
-
-
-def held(folder, name):
-    with open(os.path.join(folder, name), "rb") as file:
-        return file.read()
-
-
-def files(folder):
-    return {name: held(folder, name) for name in sorted(os.listdir(folder)) if os.path.isfile(os.path.join(folder, name))}
 
 
 def sessions(folder):
@@ -83,7 +61,7 @@ def look(room):
     rows.row("words behind it", run(one, "migrate", "now"), says(2, b"bad use"))
     rows.row("its files", files(one), before)
     rows.row("migrate", run(one, "migrate", given=deposit(1)), silent())
-    made = {"manager-1.otx": b"\1OTXLOG02" + number(1, 4) + b"\0\0" + block, "program-1.otx": before["program-0.otx"], "grain-1-0-1.otx": before["grain-0-0-1.otx"]}
+    made = {"manager-1.otx": b"\1OTXLOG02" + little(1, 4) + b"\0\0" + block, "program-1.otx": before["program-0.otx"], "grain-1-0-1.otx": before["grain-0-0-1.otx"]}
     rows.row("its bytes", files(one), {**before, **made})
     rows.row("its manager file", len(held(one, "manager-1.otx")), 97)
     rows.row("what it stands for", told(one), known)
@@ -182,7 +160,7 @@ def widen(room):
 
 def long_text(manager):
     """Where the first text of over 256 bytes has its length, in a manager file of format 1."""
-    return manager.index(b"\1" + number(257, 2)) + 1
+    return manager.index(b"\1" + little(257, 2)) + 1
 
 
 def kill(room):

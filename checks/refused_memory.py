@@ -11,7 +11,7 @@ import tempfile
 
 import shim
 from damage import TEXTS
-from harness import FIRST_PROGRAM, Ended, Rows, ask, deposit, make_old, run
+from harness import FIRST_PROGRAM, Rows, ask, deposit, make_old, run
 
 MEMORY = "/dev/shm" if os.path.isdir("/dev/shm") else None
 READING = FIRST_PROGRAM[:-1] + "method read() createorjoin read { return balance; } }"

@@ -2,20 +2,12 @@
 import os
 import tempfile
 
-from harness import BANK, Ended, Rows, ask, deposit, reply, run
+from harness import BANK, Rows, ask, deposit, reply, run, says, silent
 
 rows = Rows("reports")
 MEMORY = "/dev/shm" if os.path.isdir("/dev/shm") else None
 
 SUMMARY = b'{"aborted":%d,"committed":%d,"faulted":%d,"requests":%d,"total":64000}\n'
-
-
-def silent(output=b""):
-    return Ended(0, output, b"")
-
-
-def says(number, text):
-    return Ended(number, b"", b"silo: " + text + b"\n")
 
 
 def line(call, *args):

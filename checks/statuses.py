@@ -2,20 +2,12 @@
 import os
 import tempfile
 
-from harness import BANK, Ended, Rows, ask, deposit, make_old, reply, run, silo_folder
+from harness import BANK, Rows, ask, deposit, make_old, reply, run, says, silent, silo_folder
 
 LINE_LIMIT = 65_536
 PROGRAM_LIMIT = 262_144
 
 rows = Rows("statuses")
-
-
-def silent(number, output=b""):
-    return Ended(number, output, b"")
-
-
-def says(number, text, output=b""):
-    return Ended(number, output, b"silo: " + text + b"\n")
 
 
 with tempfile.TemporaryDirectory() as room:
@@ -29,10 +21,10 @@ with tempfile.TemporaryDirectory() as room:
 
     # 0: all was done.
     shop = folder("shop")
-    rows.row("init", run(shop, "init", given=BANK), silent(0))
-    rows.row("run", run(shop, "run", given=deposit(5) + b"x\n" + deposit(2)), silent(0, reply(1, 5, 1) + b'{"bad":"json","n":2}\n' + reply(3, 7, 2)))
-    rows.row("run without requests", run(shop, "run"), silent(0))
-    rows.row("run again", after(shop), silent(0, reply(1, 7, 3)))
+    rows.row("init", run(shop, "init", given=BANK), silent())
+    rows.row("run", run(shop, "run", given=deposit(5) + b"x\n" + deposit(2)), silent(reply(1, 5, 1) + b'{"bad":"json","n":2}\n' + reply(3, 7, 2)))
+    rows.row("run without requests", run(shop, "run"), silent())
+    rows.row("run again", after(shop), silent(reply(1, 7, 3)))
 
     # 2: bad use. The folder isn't touched.
     unused = folder("unused")
@@ -47,13 +39,13 @@ with tempfile.TemporaryDirectory() as room:
         rows.row("an input that memory doesn't suffice for", run(tight, "run", given=(b" " * LINE_LIMIT + b"\n") * 4096, memory=starts[0]), says(3, b"no memory"))
     else:
         print("statuses: the program doesn't start in little memory, so 3 isn't shown")
-    rows.row("no memory: afterwards", after(tight), silent(0, reply(1, 0, 1)))
+    rows.row("no memory: afterwards", after(tight), silent(reply(1, 0, 1)))
 
     # 4: the input can't be read. Nothing was answered.
     unread = folder("unread", BANK)
     with open(os.devnull, "wb") as only_written:
         rows.row("an input that can't be read", run(unread, "run", streams={"stdin": only_written}), says(4, b"read fault"))
-    rows.row("read fault: afterwards", after(unread), silent(0, reply(1, 0, 1)))
+    rows.row("read fault: afterwards", after(unread), silent(reply(1, 0, 1)))
 
     # 5: the output can't be written. The request whose reply was cut is in the log, and no later one.
     cut = folder("cut", BANK)
@@ -61,7 +53,7 @@ with tempfile.TemporaryDirectory() as room:
     os.close(read_end)
     rows.row("an output that nobody reads", run(cut, "run", given=deposit(5) + deposit(6), streams={"stdout": write_end}), says(5, b"write fault"))
     os.close(write_end)
-    rows.row("write fault: afterwards", after(cut), silent(0, reply(1, 5, 2)))
+    rows.row("write fault: afterwards", after(cut), silent(reply(1, 5, 2)))
     if os.path.exists("/dev/full"):
         with open("/dev/full", "wb") as full:
             rows.row("an output on a full device", run(cut, "run", given=deposit(5), streams={"stdout": full}), says(5, b"write fault"))
@@ -82,7 +74,7 @@ with tempfile.TemporaryDirectory() as room:
 
     # 8: already a silo. It stays as it was.
     rows.row("a second init", run(shop, "init", given=BANK), says(8, b"already a silo"))
-    rows.row("a second init: afterwards", after(shop), silent(0, reply(1, 7, 4)))
+    rows.row("a second init: afterwards", after(shop), silent(reply(1, 7, 4)))
 
     # 9: damaged, and where.
     broken = folder("broken", BANK, deposit(5))
@@ -102,13 +94,13 @@ with tempfile.TemporaryDirectory() as room:
     # 11: too long a line, of which and of the others of its 4,096 nothing was answered; or too long a program.
     long = folder("long", BANK)
     rows.row("a line above the limit", run(long, "run", given=ask() + b" " * (LINE_LIMIT + 1)), says(11, b"input too long"))
-    rows.row("a line at the limit", run(long, "run", given=b" " * LINE_LIMIT), silent(0, b'{"bad":"json","n":1}\n'))
+    rows.row("a line at the limit", run(long, "run", given=b" " * LINE_LIMIT), silent(b'{"bad":"json","n":1}\n'))
     empty = b"".join(b'{"bad":"json","n":%d}\n' % n for n in range(1, 4097))
     rows.row("a line above the limit behind 4,096", run(long, "run", given=b"\n" * 4096 + b" " * (LINE_LIMIT + 1)), says(11, b"input too long", empty))
     wide = folder("wide")
     rows.row("a program above the limit", run(wide, "init", given=b" " * (PROGRAM_LIMIT + 1)), says(11, b"input too long"))
     rows.row("program too long: afterwards", os.listdir(wide), [])
-    rows.row("line too long: afterwards", after(long), silent(0, reply(1, 0, 1)))
+    rows.row("line too long: afterwards", after(long), silent(reply(1, 0, 1)))
 
     # 12: no generation follows. Nothing was changed.
     last = folder("last", BANK, deposit(5))
@@ -118,14 +110,14 @@ with tempfile.TemporaryDirectory() as room:
     before = sorted(os.listdir(last))
     rows.row("compact of the last generation", run(last, "compact"), says(12, b"last generation"))
     rows.row("last generation: its files", sorted(os.listdir(last)), before)
-    rows.row("last generation: afterwards", after(last), silent(0, reply(1, 5, 2)))
+    rows.row("last generation: afterwards", after(last), silent(reply(1, 5, 2)))
 
     # 13: the program may not follow. Nothing was changed.
     before = sorted(os.listdir(shop))
     rows.row("upgrade to another program", run(shop, "upgrade", given=b"type shop { }"), says(13, b"upgrade refused at 5"))
     rows.row("upgrade to no types", run(shop, "upgrade"), says(13, b"upgrade refused at 0"))
     rows.row("upgrade refused: its files", sorted(os.listdir(shop)), before)
-    rows.row("upgrade refused: afterwards", after(shop), silent(0, reply(1, 7, 5)))
+    rows.row("upgrade refused: afterwards", after(shop), silent(reply(1, 7, 5)))
 
     # 14 and 15: the silo has an earlier format, or hasn't one. Nothing was changed.
     rows.row("migrate of a silo that isn't old", run(shop, "migrate"), says(15, b"not an old format"))
@@ -133,7 +125,7 @@ with tempfile.TemporaryDirectory() as room:
     make_old(shop)
     rows.row("a run of an old silo", run(shop, "run", given=ask()), says(14, b"old format"))
     rows.row("old format: its files", sorted(os.listdir(shop)), before)
-    rows.row("migrate of an old silo", run(shop, "migrate"), silent(0))
-    rows.row("migrate: afterwards", after(shop), silent(0, reply(1, 7, 6)))
+    rows.row("migrate of an old silo", run(shop, "migrate"), silent())
+    rows.row("migrate: afterwards", after(shop), silent(reply(1, 7, 6)))
 
 rows.end()

@@ -8,7 +8,7 @@ import sys
 import tempfile
 import time
 
-from harness import BANK, PROGRAM, TOP, Ended, Rows, ask, deposit, reply, run, silo_folder
+from harness import BANK, PROGRAM, TOP, Rows, ask, deposit, files, held, little, reply, run, says, silent, silo_folder
 
 READER = os.path.join(TOP, "examples", "reader", "read.py")
 PROGRAM_LIMIT = 262_144
@@ -31,31 +31,10 @@ FIRST_TEXT = 36
 rows = Rows("upgrade")
 
 
-def silent(output=b""):
-    return Ended(0, output, b"")
-
-
-def says(number, text):
-    return Ended(number, b"", b"silo: " + text + b"\n")
-
-
-def number(value, size):
-    return value.to_bytes(size, "little")
-
-
-def held(folder, name):
-    with open(os.path.join(folder, name), "rb") as file:
-        return file.read()
-
-
-def files(folder):
-    return {name: held(folder, name) for name in sorted(os.listdir(folder))}
-
-
 def upgrade_block(text, size=None, mark=0xFFFFFFFF, session=2, more=b""):
     """An open gate, the block of an upgrade to this text, and the closed gate behind it."""
-    body = number(session, 8) + number(mark, 4) + number(len(text) if size is None else size, 4) + text + more
-    return b"\1" + number(len(body), 4) + body + b"\0"
+    body = little(session, 8) + little(mark, 4) + little(len(text) if size is None else size, 4) + text + more
+    return b"\1" + little(len(body), 4) + body + b"\0"
 
 
 def fields(balance, limit=None, account=1):
@@ -73,7 +52,7 @@ def audited(of):
 
 def version(unit, *values):
     """A version of a grain with these numbers."""
-    return number(unit, 8) + number(len(values), 2) + b"".join(b"\0" + number(value, 8) for value in values)
+    return little(unit, 8) + little(len(values), 2) + b"".join(b"\0" + little(value, 8) for value in values)
 
 
 def read(folder):
@@ -102,10 +81,10 @@ def look(room):
     for folder, last, units, entries in ((one, version(2, 6, 7), 3, 3), (again, version(1, 5, 7), 2, 2)):
         shown, known = run(folder, "show"), read(folder)
         rows.row(f"compact behind {entries}", run(folder, "compact"), silent())
-        rows.row(f"its program, {entries}", held(folder, "program-1.otx"), number(len(LIMIT), 4) + LIMIT)
+        rows.row(f"its program, {entries}", held(folder, "program-1.otx"), little(len(LIMIT), 4) + LIMIT)
         rows.row(f"its version, {entries}", held(folder, "grain-1-0-1.otx"), last)
-        piece = b"\0" + number(entries, 8) + number(units, 8) + number(entries, 8) + number(1, 4) + number(0, 2) + number(1, 4) + number(0, 8) + number(28, 4)
-        rows.row(f"its manager file, {entries}", held(folder, "manager-1.otx"), b"\1OTXLOG02" + number(1, 4) + b"\1\0\1" + number(len(piece), 4) + piece + b"\0")
+        piece = b"\0" + little(entries, 8) + little(units, 8) + little(entries, 8) + little(1, 4) + little(0, 2) + little(1, 4) + little(0, 8) + little(28, 4)
+        rows.row(f"its manager file, {entries}", held(folder, "manager-1.otx"), b"\1OTXLOG02" + little(1, 4) + b"\1\0\1" + little(len(piece), 4) + piece + b"\0")
         rows.row(f"what it stands for, {entries}", (run(folder, "show"), read(folder)), (shown, known))
         rows.row(f"its history, {entries}", run(folder, "history"), silent())
     return before
