@@ -5,6 +5,7 @@ PREFIX = /usr/local
 DESTDIR =
 TO = $(DESTDIR)$(PREFIX)
 TOOLS = explain why picture
+EXAMPLES = bank seats stock parking
 
 .PHONY: build install uninstall package
 
@@ -27,6 +28,7 @@ install:
 	install -m 644 tools/completion/silo.bash $(TO)/share/bash-completion/completions/silo
 	for part in ftdetect ftplugin syntax; do install -D -m 644 tools/vim/$$part/grain.vim $(TO)/share/vim/vimfiles/$$part/grain.vim; done
 	install -m 644 README.md LICENSE CHANGELOG.md docs/*.md $(TO)/share/doc/silo/
+	for name in $(EXAMPLES); do install -D -m 644 examples/$$name/$$name.grain $(TO)/share/doc/silo/examples/$$name/$$name.grain; done
 
 uninstall:
 	rm -f $(TO)/bin/silo $(TOOLS:%=$(TO)/bin/silo-%)

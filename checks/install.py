@@ -37,6 +37,7 @@ def works(what, prefix, room):
 
 
 DOCUMENTS = sorted(f"share/doc/silo/{name}" for name in ["README.md", "LICENSE", "CHANGELOG.md", *os.listdir(os.path.join(TOP, "docs"))])
+DOCUMENTS += [f"share/doc/silo/examples/{name}/{name}.grain" for name in ("bank", "seats", "stock", "parking")]
 REST = ["lib/silo/explain", "lib/silo/picture", "lib/silo/python/silo.py", "lib/silo/why", "share/bash-completion/completions/silo",
         "share/vim/vimfiles/ftdetect/grain.vim", "share/vim/vimfiles/ftplugin/grain.vim", "share/vim/vimfiles/syntax/grain.vim"]
 BIN = ["bin/silo", "bin/silo-explain", "bin/silo-picture", "bin/silo-why"]

@@ -16,6 +16,7 @@ rows = Rows("launcher")
 # It says what it was asked, and does it: `all check` writes what rt writes of two libraries, and `run` makes a program that says its words
 # and its input.
 RT = r"""#!/bin/bash
+[ "$1" != version ] || { echo "a-kit logic 01ab"; exit; }
 echo "$PWD $*" >>"$ASKED"
 sleep "${PAUSE:-0}"
 if [ "$1" = all ]; then
@@ -263,6 +264,9 @@ with tempfile.TemporaryDirectory() as room:
     rows.row("a build that fails", (number, output, lines[1:3], lines[-2:]), (1, "", ["72", "73"], [
         "fn high::f: not proved", f"silo: the program wasn't built: rt ended with 1. The whole log is {log}"]))
     rows.row("how much of the log it shows", len(lines), 1 + 30 + 1)
+    for logic, said in (("01ab", "fn high::f: not proved"), ("23cd", "silo: README.md names a kit of logic 23cd, and `rt version` says logic 01ab")):
+        file(f"{top}/README.md", f"A kit whose `rt version` says `logic {logic}`.\n")
+        rows.row(f"a build that fails, with a kit of another logic: {logic}", launch(room, "bank", "show", FAILS="1")[2].splitlines()[-2], said)
     os.remove(f"{room}/bin/rt")
     number, output, errors = launch(room, "bank", "show", PATH="/usr/bin:/bin")
     rows.row("no rt", (number, output, errors), (1, "", "silo: there is no `rt`, the command of the Rattle kit, on PATH: README.md says where it comes from\n"))

@@ -9,7 +9,7 @@ import sys
 import tempfile
 import time
 
-from harness import BANK, PROGRAM, TOP, Ended, Rows, deposit, run, stand_in
+from harness import BANK, PROGRAM, TOP, Rows, run, stand_in
 
 sys.dont_write_bytecode = True
 sys.path.insert(0, os.path.join(TOP, "tools", "python"))
@@ -94,6 +94,13 @@ with tempfile.TemporaryDirectory() as room:
     rows.row("init twice", found, (8, "silo: already a silo\n"))
     none = silo.Silo(os.path.join(room, "none"), PROGRAM)
     rows.row("no silo", ([shown(result) for result in none.batch(CALLS[:1])], none.records()), ([("Unanswered", "silo ended with 7: silo: not a silo", True, [])], None))
+
+    # A file that is damaged: it may have been so only since the run began, so nothing is said of what was carried.
+    with open(os.path.join(folder("damaged"), "manager-0.otx"), "r+b") as file:
+        file.seek(14)
+        file.write(b"\7")
+    found = silo.Silo(os.path.join(room, "damaged"), PROGRAM).batch(CALLS[:1])
+    rows.row("a damaged silo", [shown(result) for result in found], [("Unanswered", "silo ended with 9: silo: damaged manager-0.otx at 14", False, None)])
 
     # What a lock aborted is sent again, and so is the fault `aborted` of a call whose own transaction was aborted.
     program = turned(room, "locked", "0,1")

@@ -34,9 +34,9 @@ INPUT_LIMIT = 16_777_216  # the most bytes that one run is given here: what a ru
 
 UPGRADE = 2**32 - 1  # what stands in an upgrade where a batch has its count
 
-DISK = 6
-# With these numbers and no reply nothing was carried.
-NOT_CARRIED = (2, 4, 7, 8, 9, 10, 11, 14)
+DISK, DAMAGED = 6, 9
+# With these numbers and no reply nothing was carried. With DAMAGED a file may have been damaged while the run went.
+NOT_CARRIED = (2, 4, 7, 8, 10, 11, 14)
 AFTER_DISK = 'before anything else is run on this folder, see "After a failed sync" in docs/OPERATIONS.md\n'
 
 MEANS = {
@@ -101,7 +101,7 @@ class InDoubt(SiloError):
 class Unanswered(SiloError):
     """The run ended with `number` before the call was answered, and the log has no record of it.
 
-    `sent` is False where it wasn't sent at all; `began` is as of Aborted, and None after a disk fault."""
+    `sent` is False where it wasn't sent at all; `began` is as of Aborted, and None after a disk fault and where a file is damaged."""
 
     def __init__(self, number, text, sent=True, began=None, again=False):
         super().__init__(f"silo ended with {number}: {text.strip()}")
@@ -305,7 +305,8 @@ class Silo:
         an aborted transaction began stays, and names its parent, but not its line.
 
         After a disk fault nothing is looked up, and replies in doubt stay as they are: the folder isn't to be opened before its manager
-        file is read from the disk again. The text says so; `history(before)` gives the records then."""
+        file is read from the disk again. The text says so; `history(before)` gives the records then. Where a file is damaged nothing is looked up
+        either: such a folder isn't opened."""
         with self:
             return self._run([line_of(*call) for call in calls], self.width)
 
@@ -341,6 +342,8 @@ class Silo:
             text += AFTER_DISK
         elif number in NOT_CARRIED and not found:
             others = []
+        elif number == DAMAGED:
+            pass  # its log can't be looked through
         elif number != 0 or retries and any(map(may_be_sent_again, found)):
             try:
                 new = self.history(before or 0)
