@@ -43,7 +43,7 @@ use Rattle.promise_laws.proofs.SettledLogs.{settled_logs}
 use Rattle.silo_opening.specs.declared.opened_silo.Opened.{Opened}
 use Rattle.silo_opening.specs.OpenedSilo.{program_in, programs_of, shapes_of, IsOpenedIn, IsOpenedFrom, IsLatest, AreLatest}
 use Rattle.silo_opening.proofs.OpeningCalls.{long_opened, opens_same, opens_and_asked, opens_untouched}
-use Rattle.checkpoint.specs.NextGeneration.{IsOnTheWay, IsLastVersionOf, IsMadeOf, next_of}
+use Rattle.checkpoint.specs.NextGeneration.{IsOnTheWay, IsLastVersionOf, IsMadeOf, next_generation}
 use Rattle.checkpoint.specs.Copies.{AreThere}
 use Rattle.checkpoint.proofs.NamedVersions.{IsNamedIn, latest_named_in, checked_behind}
 
@@ -174,7 +174,7 @@ module _ (f : Format) (o : Opened) (w0 w1 w2 : World) (from : IsOpenedIn f (seen
 module _ (o : Opened) (w0 w1 w2 : World) (from : IsOpenedFrom (seen_in w1.disk) o) (slot : o.slot ≤ 1) (opens : OnlyOpens w0 w1) (left : w1.disk ≡ opened_disk w0.disk) (asked : OnlyAsked w1 w2)
     (stay : (file : FileId) → MayLeave (w0.disk file) (w0.disk file).seen) (stay_too : (file : FileId) → MayLeave (w2.disk file) (w2.disk file).seen) (whole : IsWholeFolder w0) where
   pub made : newest_program (programs_of o) ≡ program_tree o.checked → (latest : List Named) → AreLatest (seen_in w1.disk) o from.log latest
-      → IsMadeOf (next_of o latest) (programs_of o) (program_in o) (seen_in w2.disk) from.log
+      → IsMadeOf (next_generation o latest) (programs_of o) (program_in o) (seen_in w2.disk) from.log
   made newest latest are = record {
     program = from.program;
     newest = newest;

@@ -77,8 +77,8 @@ pub record IsQuietly (old new : World) : Type 0 where
   pub clock : Arrives old new
 
 -- what the next generation of an opened silo is made of
-abbrev pub next_of : Opened → List Named → Next
-next_of o latest = record {
+abbrev pub next_generation : Opened → List Named → Next
+next_generation o latest = record {
   live = o.slot;
   generation = o.generation + 1;
   text = o.text;

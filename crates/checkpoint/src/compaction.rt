@@ -10,7 +10,7 @@ ghost use Rattle.log_reading.specs.Steps.{seen_in};
 ghost use Rattle.checkpoint.specs.Copies.{AreThere};
 ghost use Rattle.checkpoint.specs.Steps.{LastsIfLong};
 ghost use Rattle.checkpoint.specs.KeptSessions.{HasFilled, KeepsSession};
-ghost use Rattle.checkpoint.specs.NextGeneration.{FillsOtherSlot, IsQuietly, MayBeWritten, next_of};
+ghost use Rattle.checkpoint.specs.NextGeneration.{FillsOtherSlot, IsQuietly, MayBeWritten, next_generation};
 ghost use Rattle.promise_spec.specs.Words.{Manner};
 ghost use Rattle.promise_spec.specs.Endings.{BadUse};
 ghost use Rattle.promise_spec.specs.Compaction.{Compacts};
@@ -61,13 +61,13 @@ fn refuse_last(opened: &Opened) -> Result<(), OpenFault>
 }
 
 // What the next generation is made of, and the programs of the log in turn.
-fn next_of(
+fn next_generation(
     alloc: Global,
     opened: Opened,
     latest: List<Named>,
 ) -> Result<(ProgramsInTurn, Next), AllocError>
     requires { opened.generation < 4294967295 }
-    ensures next { IfOk result (λ made. made.1 ≡ next_of opened latest) }
+    ensures next { IfOk result (λ made. made.1 ≡ next_generation opened latest) }
     ensures programs { IfOk result (λ made. made.0.checked ≡ opened.programs) }
     ensures shapes { IfOk result (λ made. HasShapes made.0) }
 {
@@ -176,7 +176,7 @@ pub fn compact<H: Host>(alloc: Global, host: &mut H) -> Result<(), OpenFault>
             return Err(fault);
         }
     };
-    let (programs, next) = match next_of(alloc, opened, latest) {
+    let (programs, next) = match next_generation(alloc, opened, latest) {
         Ok(made) => made,
         Err(AllocError) => return Err(OpenFault::Memory),
     };

@@ -35,7 +35,7 @@ use Rattle.txn_agent.specs.declared.work.Carried.{Carried}
 use Rattle.txn_agent.specs.declared.work.Work.{Work}
 use Rattle.txn_agent.specs.declared.agent.Advanced.TheVariants as came
 use Rattle.txn_agent.specs.MachineState.{IsEffectOf}
-use Rattle.txn_agent.specs.Replies.{end_of, is_done}
+use Rattle.txn_agent.specs.Replies.{end_event, is_done}
 use Rattle.txn_agent.specs.CoreLink.{IfOwn, IsPaused, IsWaiting, IsOver, IsBarred, KnowsPaused, KnowsWaiting}
 use Rattle.txn_agent.specs.AgentStep.{Acts, AnswerSays, Puts}
 use Rattle.txn_agent.proofs.Trails.{missing-unit, next-own, unit-wants}
@@ -302,18 +302,18 @@ module _ (may : CoreEvent → Bool) (types : ProgramTree) (s t : Sight) (c : Car
         (λ p. stopped-by types (run_seen (saw s l.rest)) c work k.trail (EndPlain c.unit effect) p (can-ended types (run_seen (saw s l.rest)) c work k.trail _ k.at_work p effect made kind) (end_missed l f)) k.linked
 
     -- either end
-    pub over_done : (plain : Bool) → Tells may s (end_of plain c.unit effect) y t → y ≡ reply.Done → (kids : ℕ) → AnswerSays may types c.unit kids s t came.Moved
+    pub over_done : (plain : Bool) → Tells may s (end_event plain c.unit effect) y t → y ≡ reply.Done → (kids : ℕ) → AnswerSays may types c.unit kids s t came.Moved
     over_done true l = end_done l
     over_done false l = finish_done l
 
-    pub over_moves : (plain : Bool) → c.plain ≡ plain → Tells may s (end_of plain c.unit effect) y t → is_done y ≡ false → (kids : ℕ) → AnswerSays may types c.unit kids s t came.Moved
+    pub over_moves : (plain : Bool) → c.plain ≡ plain → Tells may s (end_event plain c.unit effect) y t → is_done y ≡ false → (kids : ℕ) → AnswerSays may types c.unit kids s t came.Moved
     over_moves true kind l f = end_moves l f kind
     over_moves false kind l f = finish_moves l f kind
 
-    pub over_frees : (plain : Bool) → Tells may s (end_of plain c.unit effect) y t → y ≡ reply.Done → (held : List GrainId) → held ≡ work.held → IfOwn c t (λ r. IsOver r c held)
+    pub over_frees : (plain : Bool) → Tells may s (end_event plain c.unit effect) y t → y ≡ reply.Done → (held : List GrainId) → held ≡ work.held → IfOwn c t (λ r. IsOver r c held)
     over_frees true l = end_over l
     over_frees false l = finish_over l
 
-    pub over_stopped : (plain : Bool) → c.plain ≡ plain → Tells may s (end_of plain c.unit effect) y t → is_done y ≡ false → IfOwn c t (λ r. IsBarred r c)
+    pub over_stopped : (plain : Bool) → c.plain ≡ plain → Tells may s (end_event plain c.unit effect) y t → is_done y ≡ false → IfOwn c t (λ r. IsBarred r c)
     over_stopped true kind l f = end_stopped l f kind
     over_stopped false kind l f = finish_stopped l f kind

@@ -24,9 +24,9 @@ granted_by (reply.Granted s x) = Some (s, x)
 granted_by _ = None
 
 -- the event by which a unit ends, as a plain run or a transaction
-abbrev pub end_of : Bool → UnitNo → Effect → CoreEvent
-end_of true u effect = event.EndPlain u effect
-end_of false u effect = event.Finish u effect
+abbrev pub end_event : Bool → UnitNo → Effect → CoreEvent
+end_event true u effect = event.EndPlain u effect
+end_event false u effect = event.Finish u effect
 
 -- one's own event was put, and this is what its reply says, read so
 abbrev pub Says : {A : Type 0} → (CoreEvent → Bool) → Sight → CoreEvent → (CoreReply → A) → A → Sight → Type 0

@@ -3,7 +3,7 @@ ghost use Rattle.core_model.specs.declared.events.CoreEvent.TheVariants as event
 ghost use Rattle.core_access.specs.FitAccess.{StaysFit};
 ghost use Rattle.core_access.specs.Sights.{Looks, Tells, run_seen};
 ghost use Rattle.core_access.specs.CallsWithoutMemory.{is_spared};
-ghost use Rattle.txn_agent.specs.Replies.{Says, began_by, end_of, granted_by, is_done};
+ghost use Rattle.txn_agent.specs.Replies.{Says, began_by, end_event, granted_by, is_done};
 
 use base_types::{Call, GrainId, Mode, Origin, State, UnitNo};
 use core_access::Access;
@@ -147,8 +147,8 @@ pub fn put_refuse<A: Access>(
 }
 
 /// The event by which a unit ends, as a plain run or a transaction.
-fn end_of(plain: bool, unit: UnitNo, effect: Effect) -> CoreEvent
-    ensures { result ≡ end_of plain unit effect }
+fn end_event(plain: bool, unit: UnitNo, effect: Effect) -> CoreEvent
+    ensures { result ≡ end_event plain unit effect }
 {
     if plain {
         CoreEvent::EndPlain { unit, effect }
@@ -166,10 +166,10 @@ pub fn put_end<A: Access>(
 ) -> Result<bool, AllocError>
     requires fit { A.is_fit access.old }
     ensures kept { StaysFit (A.is_fit access.new) (A.aside access.old) (A.aside access.new) }
-    ensures said { IfOk result (λ said. Says A.may_come (A.sight access.old) (end_of plain unit effect) is_done said (A.sight access.new)) }
+    ensures said { IfOk result (λ said. Says A.may_come (A.sight access.old) (end_event plain unit effect) is_done said (A.sight access.new)) }
     ensures looked { IfErr result (λ _. Looks A.may_come (A.sight access.old) (A.sight access.new)) }
 {
-    let event = end_of(plain, unit, effect);
+    let event = end_event(plain, unit, effect);
     put_done(access, event)
 }
 
