@@ -1,0 +1,2 @@
+mod RewrittenWhole
+mod WholeCalls

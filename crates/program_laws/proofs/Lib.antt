@@ -1,0 +1,2 @@
+mod GrammarPrograms
+mod LanguageFaults
