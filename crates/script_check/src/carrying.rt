@@ -1,4 +1,4 @@
-ghost use Rattle.std.specs.Prelude.{◌≡◌, ◌≤◌, ◌<◌, length, map, bytes_eq, IfOk};
+ghost use Rattle.std.specs.Prelude.{◌≡◌, ◌≤◌, ◌<◌, [], length, map, bytes_eq, IfOk};
 ghost use Rattle.std.specs.List.{position};
 ghost use Rattle.script_tree.specs.Programs.{program_tree};
 ghost use Rattle.script_check.specs.Comparison.{GoesOnFrom, GoOnInTurn};
@@ -36,22 +36,23 @@ fn kept_value(
     }
 }
 
-// The values of the new fields.
+// The values of the new fields, in a state that has none yet.
 fn carry_values(
     alloc: Global,
+    state: &mut State,
     olds: &[FieldDecl],
     news: &[FieldDecl],
     values: &[Value],
-) -> Result<State, AllocError>
+) -> Result<(), AllocError>
+    requires empty { state.old ≡ [] }
     requires few { length news.now ≤ 64 }
     requires values { length values.now ≡ length olds.now }
-    ensures { IfOk result (λ made. made ≡ carried_fields olds.now news.now values.now) }
+    ensures { IfOk result (λ _. state.new ≡ carried_fields olds.now news.now values.now) }
 {
-    let mut state = State::new(alloc);
     for field in news {
         state.push(kept_value(alloc, olds, values, field)?)?;
     }
-    Ok(state)
+    Ok(())
 }
 
 /// The state that a grain of a type has under the program `new`, where it has this one under `old`: each field of the new type, in
@@ -71,7 +72,15 @@ pub fn carry_state(
 {
     let olds = &old.program().types.as_slice()[kind as usize].fields;
     let news = &new.program().types.as_slice()[kind as usize].fields;
-    carry_values(alloc, olds.as_slice(), news.as_slice(), state.as_slice())
+    let mut carried = State::new(alloc);
+    carry_values(
+        alloc,
+        &mut carried,
+        olds.as_slice(),
+        news.as_slice(),
+        state.as_slice(),
+    )?;
+    Ok(carried)
 }
 
 /// The state that a grain of a type has in the end, where it has this one under the program `first` and these programs come after it,

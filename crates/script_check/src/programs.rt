@@ -1,6 +1,7 @@
 ghost use Rattle.std.specs.Prelude.{◌≡◌, map, []};
 ghost use Rattle.script_tree.specs.Programs.{method_tree, type_tree, program_tree};
-ghost use Rattle.script_scopes.specs.FirstFaults.{Answers, Gives};
+ghost use Rattle.script_scopes.specs.FirstFaults.{Answers, Leaves};
+ghost use Rattle.script_scopes.specs.Statements.{with_name};
 ghost use Rattle.script_check.specs.Programs.{option_fault, transaction_fault, each_fault, declared_fault, field_fault, parameter_fault, parameters_fault, method_fault, field_names, type_fault, program_fault};
 
 use base_types::STATE_LIMIT;
@@ -17,51 +18,56 @@ pub const METHOD_LIMIT: usize = 64;
 /// The most parameters that a method may have.
 pub const PARAM_LIMIT: usize = 8;
 
-/// A declared name isn't among those before it, and they are below the limit.
-fn check_declared(limit: usize, before: &[&Chars], name: &Name) -> Result<(), CheckFault>
-    ensures { Answers result (declared_fault limit (map (λ n. n.now) before.now) name.now) }
+/// A declared name isn't among those before it, and they are below the limit. It stands behind them then.
+fn declare<'a>(limit: usize, names: &mut Vec<&'a Chars>, name: &'a Name) -> Result<(), CheckFault>
+    ensures { Leaves result (declared_fault limit (map (λ n. n.now) names.old.items) name.entry.now)
+        (map (λ n. n.now) names.new.items) (with_name (map (λ n. n.now) names.old.items) name.entry.now) }
 {
-    check_free(before, name)?;
-    check_room(limit, before, name)
+    check_free(names.as_slice(), name)?;
+    check_room(limit, names.as_slice(), name)?;
+    names.push(&name.text)?;
+    Ok(())
 }
 
-/// The fields of a type are right. Answers their names.
-fn check_fields<'a>(alloc: Global, fields: &'a [FieldDecl]) -> Result<Vec<&'a Chars>, CheckFault>
-    ensures { Gives (λ names. map (λ n. n.now) names.items) result
-        (each_fault (λ f. f.name) field_fault [] fields.now) (field_names fields.now) }
+/// The fields of a type are right. Puts their names into a list that has none yet.
+fn check_fields<'a>(names: &mut Vec<&'a Chars>, fields: &'a [FieldDecl]) -> Result<(), CheckFault>
+    requires { names.old.items ≡ [] }
+    ensures { Leaves result (each_fault (λ f. f.name) field_fault [] fields.entry.now)
+        (map (λ n. n.now) names.new.items) (field_names fields.entry.now) }
 {
-    let mut names = Vec::new(alloc);
     for field in fields {
-        check_declared(STATE_LIMIT, names.as_slice(), &field.name)?;
-        names.push(&field.name.text)?;
+        declare(STATE_LIMIT, names, &field.name)?;
     }
-    Ok(names)
+    Ok(())
 }
 
-/// A parameter's name is no field's, and right among the parameters.
-fn check_parameter(fields: &[&Chars], before: &[&Chars], name: &Name) -> Result<(), CheckFault>
-    ensures { Answers result (parameter_fault (map (λ n. n.now) fields.now)
-        (map (λ n. n.now) before.now) name.now) }
+/// A parameter's name is no field's, and right among the parameters. It stands behind them then.
+fn check_parameter<'a>(
+    fields: &[&Chars],
+    names: &mut Vec<&'a Chars>,
+    name: &'a Name,
+) -> Result<(), CheckFault>
+    ensures { Leaves result (parameter_fault (map (λ n. n.now) fields.now) (map (λ n. n.now) names.old.items) name.entry.now)
+        (map (λ n. n.now) names.new.items) (with_name (map (λ n. n.now) names.old.items) name.entry.now) }
 {
     check_free(fields, name)?;
-    check_declared(PARAM_LIMIT, before, name)
+    declare(PARAM_LIMIT, names, name)
 }
 
-/// The parameters of a method are right. Answers their names.
+/// The parameters of a method are right. Puts their names into a list that has none yet.
 fn check_parameters<'a>(
-    alloc: Global,
     fields: &[&Chars],
+    names: &mut Vec<&'a Chars>,
     params: &'a [Name],
-) -> Result<Vec<&'a Chars>, CheckFault>
-    ensures { Gives (λ names. map (λ n. n.now) names.items) result
-        (parameters_fault (map (λ n. n.now) fields.now) params.now) (map (λ n. n.text) params.now) }
+) -> Result<(), CheckFault>
+    requires { names.old.items ≡ [] }
+    ensures { Leaves result (parameters_fault (map (λ n. n.now) fields.now) params.entry.now)
+        (map (λ n. n.now) names.new.items) (map (λ n. n.text) params.entry.now) }
 {
-    let mut names = Vec::new(alloc);
     for param in params {
-        check_parameter(fields, names.as_slice(), param)?;
-        names.push(&param.text)?;
+        check_parameter(fields, names, param)?;
     }
-    Ok(names)
+    Ok(())
 }
 
 /// A method with this option runs in a transaction.
@@ -86,61 +92,91 @@ fn check_transaction(kind: MethodKind, option: TxnOption, at: u32) -> Result<(),
     }
 }
 
-/// A method of a type with these fields is right.
-fn check_method(
+/// A method of a type with these fields is right. Its name stands behind the other methods' then.
+fn check_method<'a>(
     alloc: Global,
     types: &[TypeDecl],
     fields: &[&Chars],
-    before: &[&Chars],
-    method: &Method,
+    names: &mut Vec<&'a Chars>,
+    method: &'a Method,
 ) -> Result<(), CheckFault>
-    ensures { Answers result (method_fault (map type_tree types.now) (map (λ n. n.now) fields.now)
-        (map (λ n. n.now) before.now) (method_tree method.now)) }
+    ensures { Leaves result (method_fault (map type_tree types.now) (map (λ n. n.now) fields.now)
+        (map (λ n. n.now) names.old.items) (method_tree method.entry.now))
+        (map (λ n. n.now) names.new.items) (with_name (map (λ n. n.now) names.old.items) method.entry.now.name) }
 {
-    check_declared(METHOD_LIMIT, before, &method.name)?;
+    declare(METHOD_LIMIT, names, &method.name)?;
     check_transaction(method.kind, method.option, method.name.at)?;
-    let params = check_parameters(alloc, fields, method.params.as_slice())?;
-    let mut names = InScope::of(alloc, params.as_slice())?;
+    let mut params = Vec::new(alloc);
+    check_parameters(fields, &mut params, method.params.as_slice())?;
+    let mut scope = InScope::of(alloc, params.as_slice())?;
     let setting = Setting {
         types,
         fields,
         kind: method.kind,
     };
-    check_block(&setting, &mut names, method.body.as_slice())
+    check_block(&setting, &mut scope, method.body.as_slice())?;
+    Ok(())
 }
 
-/// The methods of a type with these fields are right.
-fn check_methods(
+/// The methods of a type with these fields are right. Puts their names into a list that has none yet.
+fn check_methods<'a>(
     alloc: Global,
     types: &[TypeDecl],
     fields: &[&Chars],
-    methods: &[Method],
+    names: &mut Vec<&'a Chars>,
+    methods: &'a [Method],
 ) -> Result<(), CheckFault>
+    requires { names.old.items ≡ [] }
     ensures { Answers result (each_fault (λ m. m.name)
         (method_fault (map type_tree types.now) (map (λ n. n.now) fields.now)) []
-        (map method_tree methods.now)) }
+        (map method_tree methods.entry.now)) }
 {
-    let mut names = Vec::new(alloc);
     for method in methods {
-        check_method(alloc, types, fields, names.as_slice(), method)?;
-        names.push(&method.name.text)?;
+        check_method(alloc, types, fields, names, method)?;
     }
     Ok(())
 }
 
-/// A type is right, behind types of these names.
-fn check_type(
+/// A type is right. Its name stands behind the other types' then.
+fn check_type<'a>(
     alloc: Global,
     types: &[TypeDecl],
-    before: &[&Chars],
-    of_type: &TypeDecl,
+    names: &mut Vec<&'a Chars>,
+    of_type: &'a TypeDecl,
 ) -> Result<(), CheckFault>
-    ensures { Answers result (type_fault (map type_tree types.now) (map (λ n. n.now) before.now)
-        (type_tree of_type.now)) }
+    ensures { Leaves result (type_fault (map type_tree types.now) (map (λ n. n.now) names.old.items)
+        (type_tree of_type.entry.now))
+        (map (λ n. n.now) names.new.items) (with_name (map (λ n. n.now) names.old.items) of_type.entry.now.name) }
 {
-    check_declared(TYPE_LIMIT, before, &of_type.name)?;
-    let fields = check_fields(alloc, of_type.fields.as_slice())?;
-    check_methods(alloc, types, fields.as_slice(), of_type.methods.as_slice())
+    declare(TYPE_LIMIT, names, &of_type.name)?;
+    let mut fields = Vec::new(alloc);
+    check_fields(&mut fields, of_type.fields.as_slice())?;
+    let mut methods = Vec::new(alloc);
+    check_methods(
+        alloc,
+        types,
+        fields.as_slice(),
+        &mut methods,
+        of_type.methods.as_slice(),
+    )?;
+    Ok(())
+}
+
+/// Each of these types of a program is right. Puts their names into a list that has none yet.
+fn check_each<'a>(
+    alloc: Global,
+    types: &[TypeDecl],
+    names: &mut Vec<&'a Chars>,
+    each: &'a [TypeDecl],
+) -> Result<(), CheckFault>
+    requires { names.old.items ≡ [] }
+    ensures { Answers result (each_fault (λ t. t.name) (type_fault (map type_tree types.now)) []
+        (map type_tree each.entry.now)) }
+{
+    for of_type in each {
+        check_type(alloc, types, names, of_type)?;
+    }
+    Ok(())
 }
 
 /// The types of a program are right.
@@ -149,9 +185,5 @@ pub fn check_types(alloc: Global, types: &[TypeDecl]) -> Result<(), CheckFault>
     ensures { Answers result (program_fault (map type_tree types.now)) }
 {
     let mut names = Vec::new(alloc);
-    for of_type in types {
-        check_type(alloc, types, names.as_slice(), of_type)?;
-        names.push(&of_type.name.text)?;
-    }
-    Ok(())
+    check_each(alloc, types, &mut names, types)
 }

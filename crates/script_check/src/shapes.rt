@@ -36,15 +36,25 @@ pub fn value_of(alloc: Global, literal: &Literal) -> Result<Value, AllocError>
     }
 }
 
+/// The fields' initial values, in a state that has none yet.
+fn push_initials(alloc: Global, state: &mut State, fields: &[FieldDecl]) -> Result<(), AllocError>
+    requires empty { state.old ≡ [] }
+    requires few { length fields.now ≤ 64 }
+    ensures { IfOk result (λ _. state.new ≡ map (λ f. value_of f.initial) fields.now) }
+{
+    for field in fields {
+        state.push(value_of(alloc, &field.initial)?)?;
+    }
+    Ok(())
+}
+
 /// The state with which a type's grain begins, for a type of at most 64 fields.
 pub fn initial_state(alloc: Global, fields: &[FieldDecl]) -> Result<State, AllocError>
     requires { length fields.now ≤ 64 }
     ensures { IfOk result (λ made. made ≡ map (λ f. value_of f.initial) fields.now) }
 {
     let mut state = State::new(alloc);
-    for field in fields {
-        state.push(value_of(alloc, &field.initial)?)?;
-    }
+    push_initials(alloc, &mut state, fields)?;
     Ok(state)
 }
 
@@ -75,14 +85,28 @@ fn type_shape(alloc: Global, of_type: &TypeDecl) -> Result<TypeShape, AllocError
     })
 }
 
+/// The shapes of these types, in a list that has none yet.
+fn push_shapes(
+    alloc: Global,
+    shapes: &mut List<TypeShape>,
+    types: &[TypeDecl],
+) -> Result<(), AllocError>
+    requires empty { shapes.old ≡ [] }
+    requires small { All IsSmall types.now }
+    ensures { IfOk result (λ _. shapes.new ≡ map (λ t. type_shape (type_tree t)) types.now) }
+{
+    for of_type in types {
+        shapes.push(type_shape(alloc, of_type)?)?;
+    }
+    Ok(())
+}
+
 /// The shape of these types.
 pub fn shape_of(alloc: Global, types: &[TypeDecl]) -> Result<Shape, AllocError>
     requires { All IsSmall types.now }
     ensures { IfOk result (λ made. made.types ≡ map (λ t. type_shape (type_tree t)) types.now) }
 {
     let mut shapes = List::new(alloc);
-    for of_type in types {
-        shapes.push(type_shape(alloc, of_type)?)?;
-    }
+    push_shapes(alloc, &mut shapes, types)?;
     Ok(Shape { types: shapes })
 }

@@ -1,4 +1,4 @@
-ghost use Rattle.std.specs.Prelude.{◌≡◌, ◌≤◌, IfOk, IfSome, length, map, slice_get};
+ghost use Rattle.std.specs.Prelude.{◌≡◌, ◌≤◌, [], IfOk, IfSome, length, map, slice_get};
 ghost use Rattle.std.specs.Option.{option_map, option_copied};
 ghost use Rattle.script_tree.specs.Programs.{method_tree, type_tree};
 ghost use Rattle.script_check.specs.AcceptedPrograms.{IsAcceptedProgram};
@@ -78,6 +78,25 @@ pub fn target_named<'a>(types: &'a [TypeDecl], kind: u16, name: &Chars) -> Optio
     target_at(types, kind, number)
 }
 
+/// Puts the parameters with their arguments into locals of which there are none yet.
+fn bind_each(
+    locals: &mut FrameLocals,
+    params: &Items<Name>,
+    args: List<Value>,
+) -> Result<(), AllocError>
+    requires { locals.old.items ≡ [] }
+    ensures { IfOk result (λ _. locals.new.items ≡ bound params.now.list.items args) }
+{
+    for value in args.into_vec() {
+        let Some(param) = params.get(locals.len()) else {
+            continue;
+        };
+        let name = param.text.copy()?;
+        locals.push(Local { name, value })?;
+    }
+    Ok(())
+}
+
 /// The parameters with their arguments. A parameter without an argument is left out.
 pub fn bind_arguments(
     alloc: Global,
@@ -87,12 +106,6 @@ pub fn bind_arguments(
     ensures { IfOk result (λ locals. locals.items ≡ bound params.now.list.items args) }
 {
     let mut locals = FrameLocals::new(alloc);
-    for value in args.into_vec() {
-        let Some(param) = params.get(locals.len()) else {
-            continue;
-        };
-        let name = param.text.copy()?;
-        locals.push(Local { name, value })?;
-    }
+    bind_each(&mut locals, params, args)?;
     Ok(locals)
 }

@@ -43,9 +43,7 @@ impl<'a> InScope<'a> {
         ensures { IfOk result (λ made. made.items ≡ names.now) }
     {
         let mut scope = InScope::new(alloc);
-        for name in names {
-            scope.push(*name)?;
-        }
+        push_each(&mut scope, names)?;
         Ok(scope)
     }
 
@@ -103,4 +101,15 @@ impl<'a> InScope<'a> {
             self.places.forget(name);
         }
     }
+}
+
+/// Puts names into a scope that has none yet.
+fn push_each<'a>(scope: &mut InScope<'a>, names: &[&'a Chars]) -> Result<(), AllocError>
+    requires { scope.old.items ≡ [] }
+    ensures { IfOk result (λ _. scope.new.items ≡ names.now) }
+{
+    for name in names {
+        scope.push(*name)?;
+    }
+    Ok(())
 }

@@ -18,6 +18,11 @@ abbrev pub GivesOrStops : {A : Type 0} → Result A Stop → Result A (List ℕ)
 GivesOrStops (Ok value) given = given ≡ Ok value
 GivesOrStops (Err stop) given = StopsWith stop given
 
+-- the same, for what stands in a place then
+abbrev pub LeavesOrStops : {A B : Type 0} → Result A Stop → B → Result B (List ℕ) → Type 0
+LeavesOrStops (Ok done) left given = given ≡ Ok left
+LeavesOrStops (Err stop) left given = StopsWith stop given
+
 -- the number in a value, none in a text
 abbrev pub number_in : Value → Option ℤ
 number_in (Int number) = Some number

@@ -1,7 +1,7 @@
-ghost use Rattle.std.specs.Prelude.{map};
+ghost use Rattle.std.specs.Prelude.{◌≡◌, [], map};
 ghost use Rattle.script_tree.specs.Exprs.{expr_tree};
 ghost use Rattle.script_values.specs.Expressions.{value_named, value_in, values_in, between};
-ghost use Rattle.script_values.specs.Stops.{GivesOrStops};
+ghost use Rattle.script_values.specs.Stops.{GivesOrStops, LeavesOrStops};
 ghost use Rattle.script_values.specs.Scopes.{surroundings};
 
 use crate::operators::{combined, decided, prefixed_value};
@@ -55,14 +55,29 @@ pub fn evaluate(alloc: Global, expression: &Expr, scope: &Scope) -> Result<Value
     }
 }
 
-/// The values of expressions, from left to right, or the fault of the first that has one.
+/// Puts the values of expressions, from left to right, into a list that has none yet, or answers the fault of the first
+/// that has one.
 #[tactic(auto, using(crate::proofs::Lists::one_more_behind))]
+fn push_values(
+    alloc: Global,
+    values: &mut List<Value>,
+    expressions: &[Expr],
+    scope: &Scope,
+) -> Result<(), Stop>
+    requires { values.old ≡ [] }
+    ensures { LeavesOrStops result values.new (values_in (surroundings scope.now) (map expr_tree expressions.now)) }
+{
+    for expression in expressions {
+        values.push(evaluate(alloc, expression, scope)?)?;
+    }
+    Ok(())
+}
+
+/// The values of expressions, from left to right, or the fault of the first that has one.
 pub fn evaluate_all(alloc: Global, expressions: &[Expr], scope: &Scope) -> Result<List<Value>, Stop>
     ensures { GivesOrStops result (values_in (surroundings scope.now) (map expr_tree expressions.now)) }
 {
     let mut values = List::new(alloc);
-    for expression in expressions {
-        values.push(evaluate(alloc, expression, scope)?)?;
-    }
+    push_values(alloc, &mut values, expressions, scope)?;
     Ok(values)
 }

@@ -1,5 +1,4 @@
 use Rattle.std.proofs.Common.{◌≡◌, ◌≤◌, sym, ap, subst, ◌∙◌, List, length}
-use Rattle.std.specs.Prelude.{IfOk}
 use Rattle.base_types.specs.declared.calls.Value.{Value}
 use Rattle.script_tree.specs.declared.programs.FieldDecl.{FieldDecl}
 use Rattle.script_tree.specs.declared.programs.Program.{Program}
@@ -46,4 +45,4 @@ returns c =
     ap (λ (l : List FieldDecl). carried_fields l c.as_slice-4.result.now c.as_slice-5.result.now) olds
     ∙ ap (λ (l : List FieldDecl). carried_fields (fields_of_kind (program_tree c.args.old.now) c.args.kind) l c.as_slice-5.result.now) news
     ∙ ap (λ (l : List Value). carried_fields (fields_of_kind (program_tree c.args.old.now) c.args.kind) (fields_of_kind (program_tree c.args.new.now) c.args.kind) l) c.as_slice-5.ensures in
-    subst (λ (l : List Value). IfOk c.carry_values.result (λ made. made ≡ l)) same c.carry_values.ensures
+    c.in_ok-carry_values.ensures {u = tt} ∙ same

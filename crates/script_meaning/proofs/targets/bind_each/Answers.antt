@@ -4,10 +4,10 @@ use Rattle.script_values.specs.declared.locals.Local.{Local}
 use Rattle.script_values.specs.Expressions.{Locals}
 use Rattle.script_meaning.specs.Calls.{bound}
 use Rattle.script_meaning.proofs.Bindings.{bound_none, bound_next, bound_more, bound_all}
-use Rattle.script_meaning.proofs.targets.bind_arguments.Goals as goal
+use Rattle.script_meaning.proofs.targets.bind_each.Goals as goal
 
 pub loop-value-init : goal.loop-value-init
-loop-value-init c = c.new-locals.ensures.items ∙ sym (bound_none c.args.params.now.list.items)
+loop-value-init c = c.requires ∙ sym (bound_none c.args.params.now.list.items)
 
 pub loop-value-preserved : goal.loop-value-preserved
 loop-value-preserved c =
