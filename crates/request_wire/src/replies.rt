@@ -1,10 +1,11 @@
-ghost use Rattle.std.specs.Prelude.{◌≡◌, false, [], ◌∷◌, ◌++◌, IfOk, string_bytes};
-ghost use Rattle.request_wire.specs.Reply.{type_name, grain_text, carried_data, fault_data, lock_data, vote_data, dependency_data, disk_data, doubt_data, outcome_data, bad_text, bad_data, reply_line, RepliesAreLines};
-ghost use Rattle.serde_json.specs.View.{view};
+ghost use Rattle.std.specs.Prelude.{◌≡◌, false, [], ◌∷◌, ◌++◌, codes, OnOk, IfOk, string_bytes};
+ghost use Rattle.request_wire.specs.Reply.{type_name, grain_text, numbers, carried_data, fault_data, lock_data, vote_data, dependency_data, disk_data, doubt_data, outcome_data, bad_text, bad_data, reply_line, RepliesAreLines};
+ghost use Rattle.serde_json.specs.Data.{unsigned, number, string, put};
+ghost use Rattle.serde_json.specs.View.{view, members_view};
 ghost use Rattle.serde_json.specs.Written.{has_float, compact_text};
 
 use base_types::{BadRequest, Entry, GrainId, List, Outcome, Settled, Shape, UnitNo, Value};
-use serde_json::{Value as Json, json};
+use serde_json::{Map, Value as Json};
 use std::alloc::{AllocError, Global};
 
 /// The name of a type, empty where the shape has no type of this number.
@@ -44,16 +45,69 @@ fn number_line(alloc: Global, line: u32, unit: u64, number: i64) -> Result<Strin
     format!(in alloc; "{{\"n\":{line},\"reply\":{number},\"unit\":{unit}}}\n")
 }
 
+// Puts a count under its name.
+fn put_count(
+    map: &mut Map<String, Json>,
+    alloc: Global,
+    name: &str,
+    count: u64,
+) -> Result<(), AllocError>
+    ensures { OnOk result (members_view map.new.entries ≡ put name.now (number (unsigned count)) (members_view map.old.entries)) }
+{
+    serde_json::put(map, alloc, name, Json::from(count))
+}
+
+// Puts a text under its name.
+fn put_text(
+    map: &mut Map<String, Json>,
+    alloc: Global,
+    name: &str,
+    text: &str,
+) -> Result<(), AllocError>
+    ensures { OnOk result (members_view map.new.entries ≡ put name.now (string text.now) (members_view map.old.entries)) }
+{
+    let text = Json::try_from_str(alloc, text)?;
+    serde_json::put(map, alloc, name, text)?;
+    Ok(())
+}
+
+// Puts a grain, as `type/key`.
+fn put_grain(
+    map: &mut Map<String, Json>,
+    alloc: Global,
+    shape: &Shape,
+    grain: GrainId,
+) -> Result<(), AllocError>
+    ensures { OnOk result (members_view map.new.entries ≡ put (codes "grain") (string (grain_text shape.now grain)) (members_view map.old.entries)) }
+{
+    let text = grain_text(alloc, shape, grain)?;
+    put_text(map, alloc, "grain", text.as_str())
+}
+
+// The members that the line of each unit has: its number and the unit's.
+fn numbers_of(alloc: Global, line: u32, unit: u64) -> Result<Map<String, Json>, AllocError>
+    ensures { IfOk result (λ map. members_view map.entries ≡ numbers line unit) }
+{
+    let mut map = Map::new(alloc);
+    put_count(&mut map, alloc, "unit", unit)?;
+    put_count(&mut map, alloc, "n", line as u64)?;
+    Ok(map)
+}
+
 fn text_reply(alloc: Global, line: u32, unit: u64, text: &str) -> Result<Json, AllocError>
     ensures { IfOk result (λ v. view v ≡ carried_data line unit (Value.Text text.now)) }
 {
-    json!(in alloc; {"n": line, "reply": text, "unit": unit})
+    let mut map = numbers_of(alloc, line, unit)?;
+    put_text(&mut map, alloc, "reply", text)?;
+    Ok(Json::Object(map))
 }
 
 fn fault_reply(alloc: Global, line: u32, unit: u64, text: &str) -> Result<Json, AllocError>
     ensures { IfOk result (λ v. view v ≡ fault_data line unit text.now) }
 {
-    json!(in alloc; {"fault": text, "n": line, "unit": unit})
+    let mut map = numbers_of(alloc, line, unit)?;
+    put_text(&mut map, alloc, "fault", text)?;
+    Ok(Json::Object(map))
 }
 
 fn outcome_line(
@@ -84,10 +138,11 @@ fn lock_reply(
 ) -> Result<Json, AllocError>
     ensures { IfOk result (λ v. view v ≡ lock_data shape.now line unit by grain) }
 {
-    let by = by.0;
-    let text = grain_text(alloc, shape, grain)?;
-    let grain = text.as_str();
-    json!(in alloc; {"aborted": "lock", "by": by, "grain": grain, "n": line, "unit": unit})
+    let mut map = numbers_of(alloc, line, unit)?;
+    put_grain(&mut map, alloc, shape, grain)?;
+    put_count(&mut map, alloc, "by", by.0)?;
+    put_text(&mut map, alloc, "aborted", "lock")?;
+    Ok(Json::Object(map))
 }
 
 fn vote_reply(
@@ -99,28 +154,35 @@ fn vote_reply(
 ) -> Result<Json, AllocError>
     ensures { IfOk result (λ v. view v ≡ vote_data shape.now line unit grain) }
 {
-    let text = grain_text(alloc, shape, grain)?;
-    let grain = text.as_str();
-    json!(in alloc; {"aborted": "vote", "grain": grain, "n": line, "unit": unit})
+    let mut map = numbers_of(alloc, line, unit)?;
+    put_grain(&mut map, alloc, shape, grain)?;
+    put_text(&mut map, alloc, "aborted", "vote")?;
+    Ok(Json::Object(map))
 }
 
 fn dependency_reply(alloc: Global, line: u32, unit: u64, on: UnitNo) -> Result<Json, AllocError>
     ensures { IfOk result (λ v. view v ≡ dependency_data line unit on) }
 {
-    let on = on.0;
-    json!(in alloc; {"aborted": "dependency", "n": line, "on": on, "unit": unit})
+    let mut map = numbers_of(alloc, line, unit)?;
+    put_count(&mut map, alloc, "on", on.0)?;
+    put_text(&mut map, alloc, "aborted", "dependency")?;
+    Ok(Json::Object(map))
 }
 
 fn disk_reply(alloc: Global, line: u32, unit: u64) -> Result<Json, AllocError>
     ensures { IfOk result (λ v. view v ≡ disk_data line unit) }
 {
-    json!(in alloc; {"aborted": "disk", "n": line, "unit": unit})
+    let mut map = numbers_of(alloc, line, unit)?;
+    put_text(&mut map, alloc, "aborted", "disk")?;
+    Ok(Json::Object(map))
 }
 
 fn doubt_reply(alloc: Global, line: u32, unit: u64) -> Result<Json, AllocError>
     ensures { IfOk result (λ v. view v ≡ doubt_data line unit) }
 {
-    json!(in alloc; {"in_doubt": true, "n": line, "unit": unit})
+    let mut map = numbers_of(alloc, line, unit)?;
+    serde_json::put(&mut map, alloc, "in_doubt", Json::from(true))?;
+    Ok(Json::Object(map))
 }
 
 /// The word for a test that a line fails.
@@ -139,8 +201,10 @@ fn bad_word(why: BadRequest) -> &'static str
 fn bad_reply(alloc: Global, line: u32, why: BadRequest) -> Result<Json, AllocError>
     ensures { IfOk result (λ v. view v ≡ bad_data line why) }
 {
-    let word = bad_word(why);
-    json!(in alloc; {"bad": word, "n": line})
+    let mut map = Map::new(alloc);
+    put_count(&mut map, alloc, "n", line as u64)?;
+    put_text(&mut map, alloc, "bad", bad_word(why))?;
+    Ok(Json::Object(map))
 }
 
 fn entry_line(alloc: Global, entry: &Entry, shape: &Shape) -> Result<String, AllocError>

@@ -2,8 +2,8 @@
 use Rattle.std.proofs.Common.{◌≡◌, ℕ, ◌+◌, ◌<◌, ◌≤◌, List, [], ◌∷◌, ◌++◌, Bool, true, false, length, get_or, drop, refl, sym, ap, ◌∙◌, append_assoc, append-nil, filter}
 use Rattle.std.specs.Prelude.{if◌then◌else◌}
 use Rattle.std.proofs.lemmas.List.{drop_more, drop_all}
-use Rattle.silo_nodes.specs.Packets.{TxnId, Shift, Packet, Prepare}
-use Rattle.silo_nodes.specs.Coordinators.{Part, parts_from, part_of, prepare_each, is_late}
+use Rattle.silo_nodes.specs.Packets.{TxnId, Prepare}
+use Rattle.silo_nodes.specs.Coordinators.{Part, prepare_each, is_late}
 
 -- one element is worked off
 pub sends_on : {A B : Type 0} (f : List A → List B) (g : A → List B) → ((x : A) (xs : List A) → f (x ∷ xs) ≡ g x ++ f xs) → (xs : List A) (i : ℕ) (x : A) (now next all : List B) →
@@ -24,15 +24,3 @@ late-first t said q qs = go (is_late said q)
     go : (b : Bool) → prepare_each t (if b then q ∷ filter (is_late said) qs else filter (is_late said) qs) ≡ (if b then Prepare t q.node q.shifts ∷ [] else []) ++ prepare_each t (filter (is_late said) qs)
     go true = refl
     go false = refl
-
--- the parts from a node on
-pub parts-first : (n : ℕ) (s : List Shift) (rest : List (List Shift)) → parts_from n (s ∷ rest) ≡ part_of n s ++ parts_from (n + 1) rest
-parts-first n [] rest = refl
-parts-first n (x ∷ xs) rest = refl
-
-pub parts_on : (lists : List (List Shift)) (i : ℕ) (s : List Shift) (now next all : List Part) → i < length lists → s ≡ get_or lists i s → next ≡ now ++ part_of i s →
-    now ++ parts_from i (drop i lists) ≡ all → next ++ parts_from (i + 1) (drop (i + 1) lists) ≡ all
-parts_on lists i s now next all lt is here so_far =
-    ap (λ l. l ++ parts_from (i + 1) (drop (i + 1) lists)) here ∙ append_assoc now (part_of i s) (parts_from (i + 1) (drop (i + 1) lists))
-    ∙ ap (λ l. now ++ l) (sym (parts-first i s (drop (i + 1) lists)))
-    ∙ ap (λ y. now ++ parts_from i (y ∷ drop (i + 1) lists)) is ∙ ap (λ l. now ++ parts_from i l) (sym (drop_more lists i s lt)) ∙ so_far

@@ -2,7 +2,7 @@ ghost use Rattle.std.specs.Prelude.{◌≡◌, ◌+ℤ◌, Some, OnOk, IfSome, F
 ghost use Rattle.std.specs.BTreeMap.{get};
 ghost use Rattle.base_types.specs.Stores.{grain_cmp};
 ghost use Rattle.silo_nodes.specs.Packets.{GrainId, same_grain};
-ghost use Rattle.silo_nodes.specs.LogCache.{settled_cell, settled, ShiftsFit, allows, all_allow, held_cell, held, or_cell};
+ghost use Rattle.silo_nodes.specs.LogCache.{settled_cell, settled, ShiftsFit, allows, all_allow, held_cell, held, or_cell, opening_in};
 ghost use mir.Syntax.{w64};
 
 use crate::packets::Shift;
@@ -11,7 +11,7 @@ use std::alloc::AllocError;
 use std::collections::BTreeMap;
 
 /// What is kept of a grain: its balance, and whether an undecided transaction moves it.
-#[derive(Clone, Copy, Debug, PartialEq, Eq)]
+#[derive(Clone, Copy)]
 pub struct Cell {
     pub balance: i64,
     pub busy: bool,
@@ -99,8 +99,8 @@ pub fn hold(cells: &mut BTreeMap<GrainId, Cell>, shifts: &[Shift])
     }
 }
 
-/// Gives a grain its opening balance, where it has none yet.
-pub fn open(cells: &mut BTreeMap<GrainId, Cell>, entry: (GrainId, i64)) -> Result<(), AllocError>
+// Gives a grain its opening balance, where it has none yet.
+fn open(cells: &mut BTreeMap<GrainId, Cell>, entry: (GrainId, i64)) -> Result<(), AllocError>
     ensures { OnOk result ((other : GrainId)
         → get grain_cmp cells.new other ≡
         (if same_grain entry.0 other then or_cell (get grain_cmp cells.old other) (Some entry.1) else get grain_cmp cells.old other)) }
@@ -115,5 +115,19 @@ pub fn open(cells: &mut BTreeMap<GrainId, Cell>, entry: (GrainId, i64)) -> Resul
             busy: false,
         },
     )?;
+    Ok(())
+}
+
+/// Gives these grains their opening balances, each where it has none yet.
+pub fn open_all(
+    cells: &mut BTreeMap<GrainId, Cell>,
+    opening: &[(GrainId, i64)],
+) -> Result<(), AllocError>
+    ensures { OnOk result ((grain : GrainId)
+        → get grain_cmp cells.new grain ≡ or_cell (get grain_cmp cells.old grain) (opening_in opening.now grain)) }
+{
+    for entry in opening {
+        open(cells, *entry)?;
+    }
     Ok(())
 }

@@ -1,7 +1,7 @@
 ghost use Rattle.std.specs.Prelude.{◌≡◌, IfOk};
 ghost use Rattle.silo_nodes.specs.Packets.{same_txn};
 
-use base_types::{GrainId, List, TryCopy};
+use base_types::{GrainId, List};
 use std::alloc::AllocError;
 
 /// The number of a transaction: the coordinator's epoch, from 0, and its place in that epoch, from 1.
@@ -23,12 +23,6 @@ pub fn is_same(a: TxnId, b: TxnId) -> bool
 pub struct Shift {
     pub grain: GrainId,
     pub delta: i64,
-}
-
-impl TryCopy for Shift {
-    fn try_copy(&self) -> Result<Shift, AllocError> {
-        Ok(*self)
-    }
 }
 
 /// What goes over the link: the coordinator's requests and decisions, the participants' votes and questions.
@@ -64,7 +58,7 @@ impl Packet {
             Packet::Prepare { txn, to, shifts } => Ok(Packet::Prepare {
                 txn: *txn,
                 to: *to,
-                shifts: shifts.copy()?,
+                shifts: shifts.copied()?,
             }),
             Packet::Vote { txn, from, yes } => Ok(Packet::Vote {
                 txn: *txn,

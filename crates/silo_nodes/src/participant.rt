@@ -1,4 +1,4 @@
-ghost use Rattle.std.specs.Prelude.{◌≡◌, ◌<◌, ℤ, List, [], map, Some, true, IfOk, OnOk, OnErr, slice_get};
+ghost use Rattle.std.specs.Prelude.{◌≡◌, ◌<◌, ◌++◌, ℤ, List, [], map, Some, true, IfOk, OnOk, OnErr, slice_get};
 ghost use Rattle.silo_nodes.specs.LogCache.{entry_shifts, decided_at, prepared_at, vote_at, opening_in};
 ghost use Rattle.silo_nodes.specs.Packets.{is_apart, GrainId, Ask};
 ghost use Rattle.silo_nodes.specs.Node.{is_balance, vote_on};
@@ -6,7 +6,7 @@ ghost use Rattle.silo_nodes.specs.Orders.{MarksDone};
 ghost use Rattle.silo_nodes.specs.Logs.{balance, undecided, others};
 ghost use Rattle.silo_nodes.specs.Participants.{IsApart, learned, answers, questions};
 
-use crate::cells::{Cell, allow, hold, open, settle};
+use crate::cells::{Cell, allow, hold, open_all, settle};
 use crate::packets::{NodeEntry, Packet, Shift, TxnId, is_same};
 use base_types::{GrainId, List};
 use std::alloc::{AllocError, Global};
@@ -14,7 +14,7 @@ use std::collections::BTreeMap;
 use std::marker::Model;
 
 /// What is kept of a prepared transaction: where its entry stands in the log, and whether it is done.
-#[derive(Clone, Copy, Debug, PartialEq, Eq)]
+#[derive(Clone, Copy)]
 pub struct Known {
     pub at: usize,
     pub done: bool,
@@ -58,9 +58,7 @@ impl Participant {
         ensures made { IfOk result (λ made. made ≡ record { number = number; opening = opening; log = [] }) }
     {
         let mut cells = BTreeMap::new(alloc);
-        for entry in opening.as_slice() {
-            open(&mut cells, *entry)?;
-        }
+        open_all(&mut cells, opening.as_slice())?;
         Ok(Participant {
             number,
             opening,
@@ -144,12 +142,7 @@ impl Participant {
         ensures { IfOk result (λ sent. sent ≡ questions self.now) }
     {
         let mut sent = Vec::new(self.alloc);
-        for txn in self.undecided.as_slice() {
-            sent.push(Packet::Ask {
-                txn: *txn,
-                from: self.number,
-            })?;
-        }
+        ask_each(&mut sent, self.number, self.undecided.as_slice())?;
         Ok(List::from_vec(sent))
     }
 
@@ -194,7 +187,7 @@ impl Participant {
         if !allow(&self.cells, shifts.as_slice()) {
             return Ok(());
         }
-        let shifts = shifts.copy()?;
+        let shifts = shifts.copied()?;
         self.log.reserve(1)?;
         self.undecided.reserve(1)?;
         let at = self.log.len();
@@ -226,6 +219,16 @@ impl Participant {
         prove!(pushed.is_ok());
         Ok(())
     }
+}
+
+// Appends the questions about these transactions.
+fn ask_each(sent: &mut Vec<Packet>, from: u8, txns: &[TxnId]) -> Result<(), AllocError>
+    ensures { OnOk result (sent.new.items ≡ sent.old.items ++ map (λ t. Ask t from) txns.now) }
+{
+    for txn in txns {
+        sent.push(Packet::Ask { txn: *txn, from })?;
+    }
+    Ok(())
 }
 
 // The shifts of an entry of the log.

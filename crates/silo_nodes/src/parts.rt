@@ -29,10 +29,19 @@ pub fn parts_of(lists: &[List<Shift>], alloc: Global) -> Result<List<Part>, Allo
     ensures { IfOk result (λ parts. parts ≡ parts_from 0 lists.now) }
 {
     let mut parts = Vec::new(alloc);
-    for (at, shifts) in lists.iter().enumerate() {
-        add_part(&mut parts, at as u8, shifts)?;
-    }
+    add_parts(&mut parts, lists)?;
     Ok(List::from_vec(parts))
+}
+
+// Appends the parts of the nodes that have shifts.
+fn add_parts(parts: &mut Vec<Part>, lists: &[List<Shift>]) -> Result<(), AllocError>
+    requires few { length lists.now ≤ 8 }
+    ensures { OnOk result (parts.new.items ≡ parts.old.items ++ parts_from 0 lists.now) }
+{
+    for (at, shifts) in lists.iter().enumerate() {
+        add_part(parts, at as u8, shifts)?;
+    }
+    Ok(())
 }
 
 // Appends the part of a node, where it has shifts.
@@ -42,7 +51,7 @@ fn add_part(parts: &mut Vec<Part>, node: u8, shifts: &List<Shift>) -> Result<(),
     if shifts.is_empty() {
         return Ok(());
     }
-    let shifts = shifts.copy()?;
+    let shifts = shifts.copied()?;
     parts.push(Part { node, shifts })?;
     Ok(())
 }
@@ -112,7 +121,7 @@ fn remind_one(
 fn request(sent: &mut Vec<Packet>, txn: TxnId, part: &Part) -> Result<(), AllocError>
     ensures { OnOk result (sent.new.items ≡ sent.old.items ++ Prepare txn part.now.node part.now.shifts ∷ []) }
 {
-    let shifts = part.shifts.copy()?;
+    let shifts = part.shifts.copied()?;
     let to = part.node;
     sent.push(Packet::Prepare { txn, to, shifts })?;
     Ok(())

@@ -28,7 +28,7 @@ pub struct RunningUnit {
 }
 
 /// How a unit came to its end.
-#[derive(Clone, Copy, Debug, PartialEq, Eq)]
+#[derive(Clone, Copy)]
 pub enum Ending {
     Finished,
     Refused,
@@ -84,6 +84,7 @@ impl RunningUnit {
     pub fn blank(alloc: Global) -> Result<RunningUnit, AllocError>
         ensures { IfOk result (λ unit. IsBlank unit) }
     {
+        let deps = DepSet::new(alloc)?;
         Ok(RunningUnit {
             origin: Origin::Line(0),
             call: Call {
@@ -94,7 +95,7 @@ impl RunningUnit {
             plain: false,
             kids: Vec::new(alloc),
             reads: Vec::new(alloc),
-            deps: DepSet::new(alloc)?,
+            deps,
         })
     }
 

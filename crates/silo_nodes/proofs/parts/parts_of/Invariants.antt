@@ -1,6 +1,0 @@
-use Rattle.std.proofs.Common.{◌≡◌, ◌++◌, drop}
-use Rattle.silo_nodes.specs.Coordinators.{parts_from}
-use Rattle.silo_nodes.proofs.parts.parts_of.Given as goal
-
-abbrev pub invariant-loop-at : goal.invariant-loop-at
-invariant-loop-at l = l.parts.items ++ parts_from l.at (drop l.at l.lists) ≡ parts_from 0 l.lists
