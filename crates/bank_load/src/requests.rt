@@ -90,8 +90,9 @@ fn push_transfers(
     Ok(())
 }
 
+/// The lines of a load: a deposit into each of 64 accounts, and so many transfers between them, at most 100,000, drawn from the seed on.
+/// An error where there is no memory.
 #[tactic(auto, using(crate::proofs::Numbering::load_numbered))]
-/// The lines of a load: a deposit into each of 64 accounts, and so many transfers between them, drawn from the seed on.
 pub fn load_lines(alloc: Global, transfers: u32, seed: u64) -> Result<List<Line>, AllocError>
     requires { transfers ≤ 100000 }
     ensures { IfOk result (λ lines. lines ≡ numbered_from 0 (load_calls transfers seed)) }

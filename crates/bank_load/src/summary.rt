@@ -63,7 +63,8 @@ fn summary_text(
     )
 }
 
-/// The one line that a load prints, with its line feed: how its lines ended, how many there are, and the sum of the balances.
+/// The one line that a load prints, with its line feed: how its lines ended, how many there are (`requests`), and the sum of the
+/// balances. An error where there is no memory.
 pub fn load_summary(
     alloc: Global,
     core: &Core,

@@ -125,6 +125,7 @@ impl BatchWriter {
     /// was written to each that came into force after that.
     ///
     /// `Damaged` says where no version stands there: over a host that tells it doesn't come where the versions stand (`PlacesStand`).
+    /// `Failed` where a call on the grain's file failed, and `Memory`.
     pub fn last_version<H: Host>(
         &self,
         host: &mut H,

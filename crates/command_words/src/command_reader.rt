@@ -104,8 +104,11 @@ fn first_is(words: &[String], name: &str) -> bool
     }
 }
 
-/// The command that words say, with its options: exactly one where they say one, else `BadUse`. `words` are those of the command
-/// line after the folder.
+/// The command that words say, with its options. `words` are those of the command line after the folder.
+///
+/// # Errors
+///
+/// `BadUse` where they say no command, and only there; `Memory` may come at any place.
 pub fn read_words(alloc: Global, words: &[String]) -> Result<Words, WordsFault>
     ensures said { IfOk result (λ said. Say (has_option said) (texts_of words.now) (command_of said)) }
     ensures bad_use { result ≡ Err WordsFault.BadUse → (takes : GivenOption → Bool) (command : Command)

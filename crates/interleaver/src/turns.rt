@@ -653,7 +653,7 @@ impl Turns {
 
 /// Carries all lines, and settles what they do, on one thread.
 ///
-/// While fewer lines than the width are in flight and one is left, it begins: a bad line is told to the core, any other begins as
+/// The width is 1 or more; with 0 nothing begins. While fewer lines than that are in flight and one is left, it begins: a bad line is told to the core, any other begins as
 /// a unit. Else the mover at the next pick moves, 0 behind the end of the list: the picks count the movers round and round, which
 /// are the units that can move, in number order, children among them, and after them the settler where it has a step. A unit
 /// makes its next event, the settler its next step. After a doubt the settler alone moves. Without a mover the run has ended.
@@ -667,6 +667,8 @@ impl Turns {
 ///
 /// - `InDoubt`: a batch was left in doubt, and all that is settled is written.
 /// - `WriteFault`: the output failed.
+/// - `LoadFault`: the file of a grain that a unit wants failed, where its last version was to be read; nothing is in doubt.
+/// - `LoadDamaged`: no version stands where the log names that grain's last one. It doesn't come over a host that tells.
 /// - `Memory`: memory ran out. So is told a run that hasn't ended by 2 to the 64 less one turns, in each of which an event applied; the
 ///   picks that were used before count among them.
 ///   What was put into the core and done to the host by then stands.

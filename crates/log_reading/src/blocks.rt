@@ -82,7 +82,7 @@ fn entry_at(
 /// The session of the block behind a gate of a slot's manager file, what it says under the program in force, of which this is the shape,
 /// and the next gate; none where the gate isn't open. `Damaged` names the block's length field where the block isn't whole, and else the
 /// first place in its body that isn't that of a session, behind the greatest before it, and of records of the program, or of a program
-/// that may follow it.
+/// that may follow it. `Failed` names a file on which a call failed; `Memory` may come at any place. Nothing is written.
 pub fn next_entry<H: Host>(
     alloc: Global,
     host: &mut H,

@@ -98,6 +98,7 @@ fn read_named<H: Host>(
 /// Reads the log of a slot's files, within the limits of a format, under the program of the program file and those that come into force
 /// behind it: block by block, and then each version that a record names, once, grain by grain and those of a grain in the log's order, by
 /// the program of its time. `Damaged` names the first damage in this order.
+/// `Failed` names a file on which a call failed; `Memory` may come at any place. Nothing is written.
 pub fn read_contents<H: Host>(
     alloc: Global,
     host: &mut H,

@@ -31,7 +31,7 @@ use program_file::{NumberedVersion, ProgramsInTurn};
 use std::alloc::Global;
 
 /// The version that is named in a slot's files, or the first place at which its file is damaged: it is the unit's, and has its
-/// type's fields.
+/// type's fields. `Failed` where a call on that file failed; `Memory` may come at any place. Nothing is written.
 pub fn named_version<H: Host>(
     alloc: Global,
     host: &mut H,

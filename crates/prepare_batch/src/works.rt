@@ -20,7 +20,7 @@ pub struct FileWork {
 
 /// The work of a batch: one piece for each grain that was written, ascending. It has what the units wrote
 /// there, in batch order, each version once, and goes to the file's end. Units that read from one of the
-/// aborted are left out.
+/// aborted are left out. An error where there is no memory.
 pub fn plan(
     alloc: Global,
     batch: &List<Effect>,

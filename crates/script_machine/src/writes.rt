@@ -37,8 +37,8 @@ fn insert(writes: &mut Vec<(GrainId, State)>, grain: GrainId, state: State)
     prove!(done.is_ok());
 }
 
-#[tactic(auto, using(crate::proofs::Orders::onto_push, crate::proofs::Orders::onto_none))]
 /// The grains that were set, ascending, with their working states. Takes no memory where there is room for them.
+#[tactic(auto, using(crate::proofs::Orders::onto_push, crate::proofs::Orders::onto_none))]
 fn ascending(mut held: Vec<Held>, mut writes: Vec<(GrainId, State)>) -> List<(GrainId, State)>
     requires none { writes.items ≡ [] }
     requires room { length held.items ≤ vec_capacity writes }

@@ -119,7 +119,7 @@ impl Settler {
         self.doubted
     }
 
-    /// Whether one of its cases applies to what it looked at in this call.
+    /// Whether one of its cases applies to what it looked at in this call. An error where there is no memory for the look.
     pub fn applies<A: Access>(&self, access: &mut A) -> Result<bool, AllocError>
         requires fit { A.is_fit access.old }
         ensures kept { StaysFit (A.is_fit access.new) (A.aside access.old) (A.aside access.new) }

@@ -254,7 +254,9 @@ fn fill<H: Host>(host: &mut H, program: &[u8]) -> Result<(), CreateFault>
     Ok(())
 }
 
-/// Writes a program's text into a slot's program file, its length before it, and syncs that file.
+/// Writes a program's text into a slot's program file, its length before it, and syncs that file. The text has at most 262,144 bytes.
+///
+/// `Failed` where a call on that file failed: images may then have any part of the text's bytes and its length.
 pub fn write_program<H: Host>(host: &mut H, slot: u8, program: &[u8]) -> Result<(), Failed>
     requires slot { slot ≤ 1 }
     requires small { length program.now ≤ 262144 }

@@ -47,7 +47,12 @@ impl From<AllocError> for InputFault {
     }
 }
 
-/// Reads the input to its end. It is too long where more than [`PROGRAM_LIMIT`] bytes stand before the end. No file is touched.
+/// Reads the input to its end. No file is touched.
+///
+/// # Errors
+///
+/// `TooLong` where more than [`PROGRAM_LIMIT`] bytes stand before the end, `Failed` where a call on the input failed, and `Memory`. What
+/// was pulled by then is gone from the input.
 pub fn read_input<H: Host>(alloc: Global, host: &mut H) -> Result<Vec<u8>, InputFault>
     ensures whole { IfOk result (λ bytes. IsTrue H.tells → (H.world host.old).input ≡ bytes.items) }
     ensures end { OnOk result (IsTrue H.tells → (H.world host.new).input ≡ []) }

@@ -135,8 +135,9 @@ pub fn run_alone<H: Host, G: Gate>(
 /// `run` opens the silo, reads the input in windows of 4,096 lines, and carries the lines of each as calls of the silo's program before
 /// it reads the next: it answers each with a reply line, and each that commits has its record in the log before.
 ///
-/// `show` writes the state of each grain that the log wrote, `history` each record, and `audit` the first record that doesn't
-/// replay. They leave the folder as it is.
+/// `show` writes the state of each grain that has one in the store, `history` each record and each upgrade behind the log's base, and
+/// `audit` the unit of the first record that doesn't replay; `show` and `audit` tell how many entries there are. They leave the folder
+/// as it is.
 ///
 /// `load` makes the folder a silo of the bank program, carries lines that it draws from a seed, and prints one summary line.
 ///
@@ -148,8 +149,8 @@ pub fn run_alone<H: Host, G: Gate>(
 /// same log; every other command that opens a silo opens one of format 2.
 ///
 /// What each of them promises, at each moment and at its end, is `Serves`, over a host that tells what it holds. Over any host
-/// a fault is answered only where a call on its channel failed, and no failed call on the input or the output is passed over
-/// (`AnswersAs`).
+/// a fault is answered only where a call on its channel failed, or its count stands at its last value, and no failed call on the input
+/// or the output is passed over (`AnswersAs`).
 ///
 /// It is [`run_alone`], and adds the workers. By them it may wait (`Wait`): each clause holds of a call that returns, and none says that
 /// it does. A call whose words ask for no workers returns, where the calls of its host and its gate do.

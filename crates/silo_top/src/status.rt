@@ -13,7 +13,7 @@ pub enum Status {
     Done,
     /// The words are no command.
     BadUse,
-    /// There was no memory. What stands by then stays.
+    /// There was no memory, or no number of a unit or of a session below 2 to the 63 is left. What stands by then stays.
     Memory,
     /// The input couldn't be read.
     ReadFault,
@@ -29,9 +29,11 @@ pub enum Status {
     Damaged { file: FileId, place: u64 },
     /// The input is no program.
     BadProgram { fault: ProgramFault },
-    /// The input is longer than the command takes. `line` is 0 where the limit is one on the whole input.
+    /// The input is longer than the command takes: for `run` a line has more than 65,536 bytes, or is the 4,294,967,296th; for `init` and
+    /// `upgrade` the whole has more than 262,144 bytes. `line` is the line's number, and 0 where that has more than 32 bits, or where the
+    /// limit is one on the whole input.
     InputTooLong { line: u32 },
-    /// No generation follows that of the silo, so that it isn't compacted.
+    /// No generation follows that of the silo, which is 4,294,967,295, so that it is neither compacted nor migrated.
     LastGeneration,
     /// The types of the program that is the input don't begin with the names of those in force: `at` is the place in its text of the
     /// first name that differs, or the text's length where types are missing.
@@ -66,7 +68,7 @@ impl Status {
         }
     }
 
-    /// What the program says on standard error after `silo: `.
+    /// What the program says on standard error after `silo: `, without a line feed. An error where there is no memory for it.
     pub fn text(&self, alloc: Global) -> Result<List<u8>, AllocError>
         ensures { IfOk result (λ text. text ≡ status_text self.now) }
     {

@@ -255,7 +255,7 @@ impl Agent {
         has_grain(access, self.carried, &self.doing)
     }
 
-    /// Goes on by at most one event of the unit.
+    /// Goes on by at most one event of the unit. Want of memory is the one error: an event that was put by then stands.
     pub fn advance<A: Access>(
         &mut self,
         alloc: Global,
