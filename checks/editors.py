@@ -14,19 +14,21 @@ COMPLETION = os.path.join(TOP, "tools", "completion", "silo.bash")
 def completed(room, *words):
     """What bash offers for the last of these words."""
     script = 'source "$1"; shift; COMP_WORDS=("$@"); COMP_CWORD=$(($# - 1)); _silo; printf "%s\\n" "${COMPREPLY[@]}"'
-    done = subprocess.run(["bash", "-c", script, "bash", COMPLETION, *words], cwd=room, capture_output=True)
-    return sorted(done.stdout.decode().split())
+    done = subprocess.run(["bash", "-c", script, "bash", COMPLETION, *words], cwd=room, env={**os.environ, "HOME": room}, capture_output=True)
+    return sorted(filter(None, done.stdout.decode().split("\n")))
 
 
 with tempfile.TemporaryDirectory() as room:
     for name in ("bank", "barn", "empty"):
         os.mkdir(os.path.join(room, name))
+    os.symlink("bank", os.path.join(room, "two words"))
     with open(os.path.join(room, "base.txt"), "w"):
         pass
     run(os.path.join(room, "bank"), "init", given=BANK)
     for words, wanted in (
         (["./silo", "ba"], ["bank", "barn"]),
-        (["silo", "--"], ["--help"]),
+        (["./silo", "--"], ["--help"]),
+        (["silo", "--"], []),
         (["silo", "bank", ""], ["audit", "check", "compact", "history", "migrate", "run", "show", "upgrade"]),
         (["silo", "bank", "h"], ["history"]),
         (["silo", "empty", ""], ["check", "init", "load"]),
@@ -36,9 +38,12 @@ with tempfile.TemporaryDirectory() as room:
         (["silo", "empty", "load", "10", ""], []),
         (["silo", "empty", "load", "10", "7", "--w"], ["--width", "--workers"]),
         (["silo", "bank", "show", ""], []),
+        (["silo", "two\\ w"], ["two words"]),
+        (["silo", "two\\ words", "h"], ["history"]),
+        (["silo", "~/bank", "h"], ["history"]),
     ):
         rows.row(f"completion of {' '.join(words)!r}", completed(room, *words), wanted)
-    bound = subprocess.run(["bash", "-c", f"source '{COMPLETION}'; complete -p silo ./silo"], capture_output=True).stdout
+    bound = subprocess.run(["bash", "-c", 'source "$1"; complete -p silo ./silo', "bash", COMPLETION], capture_output=True).stdout
     rows.row("completion is bound", bound, b"complete -F _silo silo\ncomplete -F _silo ./silo\n")
     # The words are those of the program: it takes each of them.
     for command in ("show", "history", "audit"):
@@ -47,12 +52,21 @@ with tempfile.TemporaryDirectory() as room:
         rows.row(f"the program has {option}", run(os.path.join(room, "bank"), "run", option, "1").number, 0)
 
     # vim: what each piece of a program is shown as. The words are those of docs/LANGUAGE.md.
-    program = 'type a { # first\n  field f = 0;\n  method m(n) createorjoin update {\n    set f = f + 12;\n    attempt x = call b/key.get("two") { } else { return 1; }\n    x += 1; // no\n  }\n}\n'
+    program = """type a { # first
+  field f = 0;
+  method m(n) createorjoin update {
+    set f = f + 12;
+    attempt x = call b/key.get("two") { } else { return 1; }
+    x += 1; // no
+  }
+}
+"""
     path = os.path.join(room, "p.grain")
     with open(path, "w") as file:
         file.write(program)
-    asks = [("type", "Declared"), ("# first", "Comment"), ("field", "Declared"), ("f = 0", "Name"), ("0;", "Number"), ("method", "Declared"), ("m(n)", "Name"), ("createorjoin", "Option"),
-            ("update", "Kind"), ("set", "Statement"), ("12", "Number"), ("attempt", "Choice"), ("call", "Statement"), ("b/", "Callee"), ("key", "Key"), ('"two"', "Text"), ("else", "Choice"), ("+=", "Wrong"), ("// no", "Wrong")]
+    asks = [("type", "Declared"), ("# first", "Comment"), ("field", "Declared"), ("f = 0", "Name"), ("0;", "Number"), ("method", "Declared"),
+            ("m(n)", "Name"), ("createorjoin", "Option"), ("update", "Kind"), ("set", "Statement"), ("12", "Number"), ("attempt", "Choice"),
+            ("call", "Statement"), ("b/", "Callee"), ("key", "Key"), ('"two"', "Text"), ("else", "Choice"), ("+=", "Wrong"), ("// no", "Wrong")]
     wanted = []
     for piece, group in asks:
         at = program.index(piece)
@@ -60,10 +74,12 @@ with tempfile.TemporaryDirectory() as room:
     if shutil.which("vim"):
         script = os.path.join(room, "ask.vim")
         with open(script, "w") as file:
-            file.write(f"set nocompatible\nset runtimepath^={TOP}/tools/vim\nfiletype plugin on\nsyntax on\nedit {path}\nlet found = [&filetype, &commentstring, &makeprg]\n")
+            file.write(f"set nocompatible\nlet &runtimepath = '{TOP}/tools/vim,' . &runtimepath\nfiletype plugin on\nsyntax on\nedit {path}\n")
+            file.write("let found = [&filetype, &commentstring, &makeprg]\n")
             for _, line, column, _ in wanted:
                 file.write(f"call add(found, synIDattr(synID({line}, {column}, 1), 'name'))\n")
-            file.write(f"set errorformat?\nsilent make\nlet mistake = getqflist()[0]\ncall add(found, mistake.lnum . ':' . mistake.col)\ncall writefile(found, '{room}/found')\nqall!\n")
+            file.write("silent make\nlet mistake = getqflist()[0]\ncall add(found, mistake.lnum . ':' . mistake.col)\n")
+            file.write(f"call writefile(found, '{room}/found')\nqall!\n")
         env = {**os.environ, "SILO": PROGRAM, "TERM": "dumb", "HOME": room}
         subprocess.run(["vim", "-es", "-u", "NONE", "-i", "NONE", "-S", script], env=env, stdin=subprocess.DEVNULL, capture_output=True, timeout=60)
         with open(os.path.join(room, "found")) as file:

@@ -18,6 +18,7 @@ def within(body, head="method m(n) create update"):
     return "type a {\n  field f = 0;\n  " + head + " {\n    " + body + "\n  }\n}\n"
 
 
+HEAD = "an option comes first (create, join, createorjoin, suppress, supported, notallowed), then a kind (read, update, plain)"
 # A mistake, the program, the byte that silo names, its line and column, and the cause.
 MISTAKES = [
     ("missing semicolon", within("let x = 1\n    return x;"), 72, "5:5", "`return` can't stand here: a `;` or a `}` is missing before it"),
@@ -25,8 +26,8 @@ MISTAKES = [
     ("// comment", "// my types\ntype a { }\n", 0, "1:1", "comments begin with #"),
     ("single quotes", within("fail 'no';"), 63, "4:10", "texts stand between double quotes"),
     ("missing brace at the end", "type a {\n  field f = 0;\n", 24, "3:1", "the text ends too early: a brace, a parenthesis or a `;` is missing"),
-    ("no option", "type a {\n  method m() read { return 1; }\n}\n", 22, "2:14", "an option comes first (create, join, createorjoin, suppress, supported, notallowed), then a kind (read, update, plain)"),
-    ("option and kind swapped", "type a {\n  method m() read create { return 1; }\n}\n", 22, "2:14", "an option comes first (create, join, createorjoin, suppress, supported, notallowed), then a kind (read, update, plain)"),
+    ("no option", "type a {\n  method m() read { return 1; }\n}\n", 22, "2:14", HEAD),
+    ("option and kind swapped", "type a {\n  method m() read create { return 1; }\n}\n", 22, "2:14", HEAD),
     ("method before field", "type a {\n  method m() create read { return 1; }\n  field f = 0;\n}\n", 50, "3:3", "fields come before methods"),
     ("else if", within("if n { return 1; } else if f { return 2; } else { return 3; }"), 82, "4:29", "there is no `else if`: write `else { if .. { } }`"),
     ("x += 1", within("let x = 1; x += 1;"), 71, "4:18", "there is no `+=` and no `++`: write `x = x + 1;`"),
@@ -38,15 +39,18 @@ MISTAKES = [
     ("true", within("if true { return 1; }"), 61, "4:8", "there is no `true`: any number other than 0 is true, write 1"),
     ("1.5", within("return 1.5;"), 66, "4:13", "numbers are whole"),
     ("escape in a text", within('fail "a\\n";'), 63, "4:10", "a text has no \\: there are no escapes"),
-    ("call inside an expression", within("return call a/1.m(1) + 1;"), 65, "4:12", "a call stands alone, or behind `let x =`, `x =` or `attempt x =`, in no expression"),
+    ("call inside an expression", within("return call a/1.m(1) + 1;"), 65, "4:12",
+     "a call stands alone, or behind `let x =`, `x =` or `attempt x =`, in no expression"),
     ("return call", within("return call a/1.m(1);"), 65, "4:12", "a call stands alone, or behind `let x =`, `x =` or `attempt x =`, in no expression"),
     ("if call", within("if call a/1.m(1) { return 1; }"), 61, "4:8", "a call stands alone, or behind `let x =`, `x =` or `attempt x =`, in no expression"),
     ("wrong argument count", within("call a/1.m();"), 67, "4:14", "`m` of `a` takes (n), and here is another number of arguments"),
     ("unknown type", within("call b/1.m(1);"), 63, "4:10", "no type is called `b`"),
     ("unknown method", within("call a/1.q(1);"), 67, "4:14", "the type `a` has no method `q`"),
-    ("field in plain", "type a {\n  field f = 0;\n  method m() create plain { return f; }\n}\n", 59, "3:36", "`f` is a field, and a `plain` method has none: read or update"),
+    ("field in plain", "type a {\n  field f = 0;\n  method m() create plain { return f; }\n}\n", 59, "3:36",
+     "`f` is a field, and a `plain` method has none: read or update"),
     ("set in read", "type a {\n  field f = 0;\n  method m() create read { set f = 1; }\n}\n", 55, "3:32", "`f` is a field, and a `read` method sets none: update"),
-    ("update with suppress", "type a {\n  method m() suppress update { }\n}\n", 18, "2:10", "a method that reads or updates fields has the option create, join or createorjoin"),
+    ("update with suppress", "type a {\n  method m() suppress update { }\n}\n", 18, "2:10",
+     "a method that reads or updates fields has the option create, join or createorjoin"),
     ("text key", within('call a/"x".m(1);'), 65, "4:12", "a key is a number, a name, `key`, or an expression in parentheses"),
     ("negative key", within("call a/-1.m(1);"), 65, "4:12", "a key is a number, a name, `key`, or an expression in parentheses"),
     ("a < b < c", within("return 1 < n < 3;"), 71, "4:18", "one comparison alone: join two by `&&`"),
@@ -70,7 +74,8 @@ MORE = [
     ("types of parameters", "type a { method m(n: int) create plain { } }", ": int", "there are no types of values: write the name alone"),
     ("a call without its word", within("a/1.m(1);"), "/1.m(1)", "a call begins with `call`: `call a/KEY.METHOD();`"),
     ("an unknown key", within("let k2 = 1; call a/k.m(1);"), "k.m", "nothing that may stand here is called `k`; is `k2` meant?"),
-    ("an else without a block", within("if n { return 1; else { return 2; }"), "else", "`else` stands behind a block: a `}` is missing before it, or the braces of the `if`"),
+    ("an else without a block", within("if n { return 1; else { return 2; }"), "else",
+     "`else` stands behind a block: a `}` is missing before it, or the braces of the `if`"),
     ("a block without braces", within("if (n > 1) return 1;"), "return 1", "a block has braces: `if .. { .. }`"),
     ("= for ==", within("if n = 1 { return 1; }"), "= 1", "`=` gives a value: `==` compares"),
     ("one &", within("return n & 1;"), "& 1", "write `&&`"),
@@ -88,7 +93,8 @@ MORE = [
     ("a local in a type", "type a { let x = 1; }", "let", "a type has fields, as `field f = 0;`, and then methods"),
     ("a method outside a type", "method m() create plain { }", "method", "a program has types alone: `type NAME { .. }`"),
     ("a brace too many", "type a { } }", "} }", "there is one brace too many before"),
-    ("a method's name misspelled", "type a { method deposit(n) create plain { } method m() create plain { call a/1.depositt(1); } }", "depositt", "the type `a` has no method `depositt`; is `deposit` meant?"),
+    ("a method's name misspelled", "type a { method deposit(n) create plain { } method m() create plain { call a/1.depositt(1); } }", "depositt",
+     "the type `a` has no method `depositt`; is `deposit` meant?"),
 ]
 
 
@@ -127,6 +133,17 @@ with tempfile.TemporaryDirectory() as room:
     given("type a { # " + "x" * 300 + "\n}\ntype b { method m() create plain { return " + '"a" + ' * 20 + "x; } }")
     shown = explain(path)[1][1:]
     rows.row("a long line", (len(shown[0]) < 130, shown[0][shown[1].index("^")]), (True, "x"))
+
+    # What isn't a digit of the language, a number of more digits than Python reads, and a byte amid a letter.
+    given("type a { field f = ²; }")
+    rows.row("a digit of another kind", explain(path), (10, [f"{path}:1:20: `²` can't stand here", "  type a { field f = ²; }", "  " + " " * 19 + "^"]))
+    given(within(f"return {'9' * 5000};"))
+    rows.row("a number of 5,000 digits", explain(path)[1][0], f"{path}:4:12: numbers go to 9223372036854775807")
+    given("type a { # Ż\n}\ntype B { }")
+    rows.row("a byte amid a letter", explain(path, "12")[0], 10)
+    # By a pipe it is read once.
+    piped = subprocess.run([EXPLAIN, "/dev/stdin"], input=b"type B { }", env={**os.environ, "SILO": PROGRAM}, capture_output=True)
+    rows.row("a pipe", (piped.returncode, piped.stdout.split(b"\n")[0]), (10, b"/dev/stdin:1:6: names have a to z, 0 to 9 and _ alone, no capitals"))
 
     # How it ends otherwise.
     given("type a { }")

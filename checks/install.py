@@ -28,7 +28,8 @@ def works(what, prefix, room):
     path = os.path.join(room, f"{what}.grain")
     with open(path, "w") as file:
         file.write("type A { }")
-    rows.row(f"{what}: explain", said("silo-explain", path, env=env)[:2], (10, f"{path}:1:6: names have a to z, 0 to 9 and _ alone, no capitals\n  type A {{ }}\n       ^\n"))
+    rows.row(f"{what}: explain", said("silo-explain", path, env=env)[:2],
+             (10, f"{path}:1:6: names have a to z, 0 to 9 and _ alone, no capitals\n  type A {{ }}\n       ^\n"))
     rows.row(f"{what}: why", said("silo-why", os.path.join(room, "none"), env=env)[0], 1)
     number, text, errors = said("silo-picture", folder, env=env)
     rows.row(f"{what}: picture", (number, text.count('class="unit"'), errors), (0, 1, ""))
@@ -45,7 +46,8 @@ BIN = ["bin/silo", "bin/silo-explain", "bin/silo-picture", "bin/silo-why"]
 with tempfile.TemporaryDirectory() as room:
     if shutil.which("make"):
         # With DESTDIR, as packages do it, and without, as people do.
-        for what, words, prefix in (("here", [f"PREFIX={room}/local"], f"{room}/local"), ("staged", [f"DESTDIR={room}/stage", "PREFIX=/usr"], f"{room}/stage/usr")):
+        ways = (("here", [f"PREFIX={room}/a place"], f"{room}/a place"), ("staged", [f"DESTDIR={room}/stage", "PREFIX=/usr"], f"{room}/stage/usr"))
+        for what, words, prefix in ways:
             make = ["make", "-s", "-C", TOP, f"SILO={PROGRAM}", *words]
             rows.row(f"{what}: install", said(*make, "install"), (0, "", ""))
             rows.row(f"{what}: the files", files(prefix), sorted([*BIN, *REST, *DOCUMENTS, "share/man/man1/silo.1"]))
@@ -56,18 +58,24 @@ with tempfile.TemporaryDirectory() as room:
         # Without a program that is named, the one of the repository is built first.
         env = {name: value for name, value in os.environ.items() if name != "SILO"}
         planned = said("make", "-n", "-C", TOP, "install", "DESTDIR=/none", env=env)[1].split("\n")
-        rows.row("what is built and installed", [line for line in planned if "tools/build" in line or "bin/silo" in line][:2], ["tools/build", "install -m 755 crates/silo/out/silo /none/usr/local/bin/silo"])
+        rows.row("what is built and installed", [line for line in planned if "tools/build" in line or "bin/silo" in line][:2],
+                 ["tools/build", 'install -m 755 "crates/silo/out/silo" "/none/usr/local/bin/silo"'])
     else:
         print("install: there is no make, so an install isn't shown")
 
     if shutil.which("make") and shutil.which("dpkg-deb"):
-        number, made, errors = said(os.path.join(TOP, "tools", "package"), room, env={**os.environ, "SILO": PROGRAM})
+        # Whatever the one who makes it keeps from others.
+        packs = ["sh", "-c", 'umask 077; exec "$@"', "sh", os.path.join(TOP, "tools", "package"), room]
+        number, made, errors = said(*packs, env={**os.environ, "SILO": PROGRAM})
         made = made.strip()
         rows.row("package", (number, errors, os.path.dirname(made)), (0, "", room))
-        rows.row("its name", said("dpkg-deb", "--field", made, "Package", "Depends", "Recommends")[1], "Package: silo\nDepends: libc6 (>= 2.34)\nRecommends: python3\n")
+        rows.row("its name", said("dpkg-deb", "--field", made, "Package", "Depends", "Recommends")[1],
+                 "Package: silo\nDepends: libc6 (>= 2.34)\nRecommends: python3\n")
         rows.row("its folder", said("dpkg-deb", "-x", made, os.path.join(room, "unpacked"))[0], 0)
         rows.row("the package's files", files(f"{room}/unpacked/usr"), sorted([*BIN, *REST, *DOCUMENTS, "share/man/man1/silo.1.gz"]))
-        rows.row("whose they are", {line.split()[1] for line in said("dpkg-deb", "-c", made)[1].splitlines()}, {"root/root"})
+        listed = {tuple(line.split()[:2]) for line in said("dpkg-deb", "-c", made)[1].splitlines()}
+        modes = ("-rw-r--r--", "-rwxr-xr-x", "drwxr-xr-x", "lrwxrwxrwx")
+        rows.row("whose they are, and for whom", listed, {(mode, "root/root") for mode in modes})
         works("deb", f"{room}/unpacked/usr", room)
     else:
         print("install: there is no dpkg-deb, so a package isn't shown")

@@ -9,7 +9,7 @@ import subprocess
 import tempfile
 import time
 
-from harness import TOP, Rows
+from harness import TOP, Rows, comes
 
 rows = Rows("launcher")
 
@@ -37,7 +37,7 @@ PROGRAM
 """
 
 # A kit's rt in Python, with what tools/prove uses of it: a sum goes down to each crate along every way, and what is begun and ended is told.
-# A library that is made has the text of its crate.
+# A library that is made has the text of its crate. By WAITS the check of a crate ends once a line that begins so is told.
 PYTHON_RT = r"""#!/usr/bin/env python3
 import os, sys, time, types
 rtlib = types.ModuleType("rtlib")
@@ -45,9 +45,15 @@ sys.modules["rtlib"] = rtlib
 TOP = os.path.dirname(os.path.dirname(os.getcwd()))
 READ = []
 
+WAITS = dict(pair.split(":") for pair in os.environ.get("WAITS", "").split(",") if pair)
+
 def say(text):
     with open(os.environ["ASKED"], "a") as file:
         file.write(text + "\n")
+
+def is_said(words):
+    with open(os.environ["ASKED"]) as file:
+        return any(line.startswith(words) for line in file)
 
 def root_above(folder):
     return TOP
@@ -98,7 +104,8 @@ class Crate:
     def call(self, *words):
         at = words.index("-o")
         say("begin " + self.name + " " + " ".join([*words[:at], os.path.relpath(os.path.join(self.folder, words[at + 1]), TOP)]))
-        time.sleep(0.9 if self.name == "right" else 0.3)
+        while self.name in WAITS and not is_said(WAITS[self.name]):
+            time.sleep(0.02)
         say("end " + self.name)
         if self.name == os.environ.get("KILLED"):
             del os.environ["KILLED"]
@@ -204,6 +211,19 @@ def within(folder):
     return found
 
 
+def background(room, *words, how=None, **more):
+    """A process beside this one, without an input."""
+    streams = {"stdin": subprocess.DEVNULL, "stdout": subprocess.PIPE, "stderr": subprocess.PIPE}
+    return subprocess.Popen(words, cwd=f"{room}/top", env=environment(room, **more), **streams, **(how or {}))
+
+
+def started(room, *words, how=None, **more):
+    """A build that is under way: what it started has asked rt something."""
+    one = background(room, *words, how=how, **more)
+    assert comes(lambda: asked(room)), words
+    return one
+
+
 def asked(room):
     """How often rt was asked."""
     if not os.path.exists(f"{room}/asked"):
@@ -255,7 +275,8 @@ with tempfile.TemporaryDirectory() as room:
     # What a build says on a terminal, in one line.
     os.remove(f"{top}/crates/silo/out/silo")
     number, shown = on_terminal(room, "bank", "show", PAUSE="2")
-    rows.row("progress", (number, [part.rstrip() for part in ("1 of 4 crates are proved, 0 min", "3 of 4 crates are proved, 0 min") if f"\rsilo: {part}" not in shown]), (0, []))
+    parts = ("1 of 4 crates are proved, 0 min", "3 of 4 crates are proved, 0 min")
+    rows.row("progress", (number, [part for part in parts if f"\rsilo: {part}" not in shown]), (0, []))
 
     # A build that fails.
     os.remove(f"{top}/crates/silo/out/silo")
@@ -272,27 +293,59 @@ with tempfile.TemporaryDirectory() as room:
     rows.row("no rt", (number, output, errors), (1, "", "silo: there is no `rt`, the command of the Rattle kit, on PATH: README.md says where it comes from\n"))
 
 with tempfile.TemporaryDirectory() as room:
+    # Where nothing can be written.
+    top = repository(room)
+    file(f"{top}/out", "")
+    rows.row("no place for the log", launch(room, "bank"), (1, "", f"silo: the program wasn't built: [Errno 17] File exists: '{top}/out'\n"))
+    file(f"{top}/crates/silo/out/silo", "#!/bin/sh\n", 0o755)
+    rows.row("nothing to build there", subprocess.run([f"{top}/tools/build"], stdin=subprocess.DEVNULL, capture_output=True).returncode, 0)
+
+with tempfile.TemporaryDirectory() as room:
     # Two at once: one builds, the other waits for it.
     repository(room)
-    both = [subprocess.Popen(["./silo", "bank"], cwd=f"{room}/top", env=environment(room, PAUSE="1"), stdin=subprocess.DEVNULL, stdout=subprocess.PIPE, stderr=subprocess.PIPE) for _ in range(2)]
+    both = [background(room, "./silo", "bank", PAUSE="1") for _ in range(2)]
     said = [one.communicate(timeout=60) for one in both]
     rows.row("two at once", (asked(room), [one.returncode for one in both], [output for output, _ in said]), (2, [0, 0], [b"words bank\n"] * 2))
     rows.row("one waits", sum(b"silo: another build goes: waiting for it\n" in errors for _, errors in said), 1)
 
+for number in (signal.SIGINT, signal.SIGHUP, signal.SIGTERM):
+    with tempfile.TemporaryDirectory() as room:
+        # A signal ends the build and what it started.
+        top = repository(room)
+        # A check that runs in the background may have been started to ignore it.
+        heeds = {"start_new_session": True, "preexec_fn": lambda number=number: signal.signal(number, signal.SIG_DFL)}
+        one = started(room, "./silo", "bank", how=heeds, PAUSE="30")
+        os.killpg(one.pid, number)
+        one.communicate(timeout=20)
+        is_gone = comes(lambda: not within(top))
+        rows.row(f"a signal: {number.name}", (one.returncode != 0, os.path.exists(f"{top}/crates/silo/out/silo"), is_gone), (True, False, True))
+
 with tempfile.TemporaryDirectory() as room:
-    # An interrupt ends the build and what it started.
-    top = repository(room)
-    # A check that runs in the background may have been started to ignore it.
-    heeds = {"start_new_session": True, "preexec_fn": lambda: signal.signal(signal.SIGINT, signal.SIG_DFL)}
-    one = subprocess.Popen(["./silo", "bank"], cwd=top, env=environment(room, PAUSE="30"), stdin=subprocess.DEVNULL, stdout=subprocess.PIPE, stderr=subprocess.PIPE, **heeds)
-    while not asked(room):
-        time.sleep(0.05)
-    os.killpg(one.pid, signal.SIGINT)
+    # One that is killed leaves what it started, and the next one waits for that.
+    repository(room)
+    one = started(room, "tools/build", PAUSE="2")
+    one.kill()
     one.communicate(timeout=20)
-    until = time.monotonic() + 10
-    while within(top) and time.monotonic() < until:
-        time.sleep(0.05)
-    rows.row("an interrupt", (one.returncode != 0, os.path.exists(f"{top}/crates/silo/out/silo"), within(top)), (True, False, []))
+    number, output, errors = launch(room, "bank")
+    rows.row("behind a build that was killed", (number, output, errors.split("\n")[0]), (0, "words bank\n", "silo: another build goes: waiting for it"))
+
+with tempfile.TemporaryDirectory() as room:
+    # A source that changes while it is built is built once more.
+    top = repository(room)
+    one = started(room, "./silo", "bank", PAUSE="1")
+    file(f"{top}/crates/low/src/lib.rt", "// another low\n")
+    one.communicate(timeout=60)
+    before, _ = asked(room), launch(room, "bank")
+    rows.row("a source that changes meanwhile", (before, asked(room)), (2, 4))
+    launch(room, "bank")
+    rows.row("and no more", asked(room), 4)
+
+with tempfile.TemporaryDirectory() as room:
+    # By a link, the launcher finds its repository.
+    repository(room)
+    os.symlink(f"{room}/top/silo", f"{room}/bin/silo")
+    done = subprocess.run(["silo", "bank"], cwd=room, env=environment(room), stdin=subprocess.DEVNULL, capture_output=True, timeout=60)
+    rows.row("a link", (done.returncode, done.stdout), (0, b"words bank\n"))
 
 with tempfile.TemporaryDirectory() as room:
     # By the kit's own calls: what has most text above it first, side by side, with the jobs that are left over; each sum made once a crate.
@@ -314,7 +367,7 @@ with tempfile.TemporaryDirectory() as room:
         # Of two that are begun at one time either may say so first.
         said = re.findall(r"(?m)^== (\w+)$\n(?:.*\n)*?^prove: \1 (is proved|isn't proved, and ended with -?\d+): \d s, with --jobs \d$", done.stdout.decode())
         names = [name if how == "is proved" else f"{name} {how.split()[-1]}" for name, how in said]
-        return done.returncode, names, lines[:3] + sorted(lines[3:5]) + lines[5:]
+        return done.returncode, sorted(names), lines[:3] + sorted(lines[3:5]) + lines[5:]
 
     def begin(name, jobs):
         """What is asked for a crate: a library of statements over those of the crates that it uses, or the program over them."""
@@ -328,15 +381,17 @@ with tempfile.TemporaryDirectory() as room:
         return number, len(names), [line.split()[1] for line in asked if line.startswith("begin ")]
 
     sums = "(silo(low)(left(low))(right(low))(tall(left(low)))) True 10"
+    # Side by side, and in this order.
+    order, fails = "left:begin right,right:end tall", "left:begin right,right:end left"
     wanted = ["lock low left right tall silo", begin("low", 4), "end low", begin("left", 2), begin("right", 2), "end left",
               begin("tall", 2), "end tall", "end right", begin("silo", 4), "end silo", sums]
-    rows.row("side by side", prove("4"), (0, ["low", "left", "tall", "right", "silo"], wanted))
+    rows.row("side by side", prove("4", WAITS=order), (0, ["left", "low", "right", "silo", "tall"], wanted))
     one = [word for name in ("low", "left", "right", "tall", "silo") for word in (begin(name, 1), f"end {name}")]
     found = prove("1")
     rows.row("one after another", (found[0], sorted(found[2][1:-1])), (0, sorted(one)))
-    rows.row("a library that fails", prove("4", FAILS="left"), (1, ["low", "left 1", "right"], [*wanted[:6], "end right"]))
+    rows.row("a library that fails", prove("4", FAILS="left", WAITS=fails), (1, ["left 1", "low", "right"], [*wanted[:6], "end right"]))
     killed = [*wanted[:6], begin("tall", 2), "end tall", "end right", begin("right", 2), "end right", begin("silo", 2), "end silo", sums]
-    rows.row("a check that is killed", prove("4", KILLED="right"), (0, ["low", "left", "tall", "right -9", "right", "silo"], killed))
+    rows.row("a check that is killed", prove("4", KILLED="right", WAITS=order), (0, ["left", "low", "right", "right -9", "silo", "tall"], killed))
 
     # What is proved stays, as long as its text does, and the libraries that it stands on are as they were.
     rows.row("a first run", prove("4", TEXT="1")[0], 0)
@@ -362,7 +417,8 @@ with tempfile.TemporaryDirectory() as room:
     if os.path.exists(f"{top}/crates/silo/out/silo"):
         os.remove(f"{top}/crates/silo/out/silo")
     number, output, errors = launch(room, "bank")
-    rows.row("the launcher by it", (number, re.sub(r"\d+ at a time", "N at a time", errors)), (0, f"silo: proving 5 crates, N at a time, and building the program; the log is {top}/out/build.log\n"))
+    said = f"silo: proving 5 crates, N at a time, and building the program; the log is {top}/out/build.log\n"
+    rows.row("the launcher by it", (number, re.sub(r"\d+ at a time", "N at a time", errors)), (0, said))
 
 if shutil.which("rt"):
     # The kit's own rt, with its sums made once.

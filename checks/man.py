@@ -24,7 +24,8 @@ rows.row("parts", re.findall(r"(?m)^\.SH (.*)$", page), heads)
 parts = dict(zip(heads, re.split(r"(?m)^\.SH .*\n", page)[1:]))
 tags = {head: [re.sub(r"\\f.|\\&", "", tag) for tag in re.findall(r"(?m)^\.TP\n(.*)$", part)] for head, part in parts.items()}
 commands = " ".join(tags["COMMANDS"])
-rows.row("commands", [word for word in ("init", "run", "show", "history", "audit", "compact", "upgrade", "migrate", "load") if not re.search(rf"\b{word}\b", commands)], [])
+rows.row("commands", [word for word in ("init", "run", "show", "history", "audit", "compact", "upgrade", "migrate", "load")
+                        if not re.search(rf"\b{word}\b", commands)], [])
 with open(os.path.join(TOP, "docs", "OPERATIONS.md")) as file:
     operations = file.read()
 numbers = re.findall(r"(?m)^\| (\d+)\b", operations)
@@ -37,7 +38,8 @@ if shutil.which("groff"):
     done = subprocess.run(["groff", "-man", "-Tutf8", "-ww"], input=page.encode(), capture_output=True)
     shown = re.sub(r"\x1b\[[0-9;]*m|.\x08", "", done.stdout.decode())
     rows.row("groff", (done.returncode, done.stderr), (0, b""))
-    rows.row("what is shown", ("silo FOLDER run [--width W | --workers K] < REQUESTS" in shown, "`" in shown, "**" in shown, "\\f" in shown), (True, False, False, False))
+    rows.row("what is shown", ("silo FOLDER run [--width W | --workers K] < REQUESTS" in shown, "`" in shown, "**" in shown, "\\f" in shown),
+         (True, False, False, False))
 else:
     print("man: there is no groff, so the page isn't shown")
 

@@ -2,6 +2,7 @@
 of records, and that pip installs it without a network."""
 import json
 import os
+import pathlib
 import shutil
 import struct
 import subprocess
@@ -9,7 +10,7 @@ import sys
 import tempfile
 import time
 
-from harness import BANK, PROGRAM, TOP, Rows, run, stand_in
+from harness import BANK, PROGRAM, TOP, Rows, run, silo_folder, stand_in
 
 sys.dont_write_bytecode = True
 sys.path.insert(0, os.path.join(TOP, "tools", "python"))
@@ -60,10 +61,7 @@ def shown(result):
 with tempfile.TemporaryDirectory() as room:
 
     def folder(name, program=BANK):
-        path = os.path.join(room, name)
-        assert os.path.exists(path) or os.mkdir(path) is None
-        assert run(path, "init", given=program).number == 0
-        return path
+        return silo_folder(room, name, program)
 
     # Results, and how a client is told what isn't a value.
     bank = folder("bank")
@@ -77,7 +75,8 @@ with tempfile.TemporaryDirectory() as room:
             raised = (fault.text, fault.unit, fault.call, fault.again)
         rows.row("a fault is raised", raised, ("funds", 5, ("teller/0.transfer", [1, 2, 500]), False))
         rows.row("a text of several letters", shown(it.batch([("account/1.deposit", ["Żółw"])])[0]), ("Fault", "kind", False, None))
-        for call, args, word in (("account/x.read", [], "grain"), ("account/1.read", [1], "args"), ("account/1.deposit", [1.5], "args"), ("account/1.deposit", [True], "args")):
+        for call, args, word in (("account/x.read", [], "grain"), ("account/1.read", [1], "args"),
+                                 ("account/1.deposit", [1.5], "args"), ("account/1.deposit", [True], "args")):
             rows.row(f"bad: {call} {args}", it.batch([(call, args)])[0].word, word)
         rows.row("reports", (it.show(), it.audit(), it.history(5), it.records()), (
             {"account/1": {"balance": 1}, "account/2": {"balance": 9}}, (6, None),
@@ -93,7 +92,8 @@ with tempfile.TemporaryDirectory() as room:
         found = (ended.number, ended.text)
     rows.row("init twice", found, (8, "silo: already a silo\n"))
     none = silo.Silo(os.path.join(room, "none"), PROGRAM)
-    rows.row("no silo", ([shown(result) for result in none.batch(CALLS[:1])], none.records()), ([("Unanswered", "silo ended with 7: silo: not a silo", True, [])], None))
+    rows.row("no silo", ([shown(result) for result in none.batch(CALLS[:1])], none.records()),
+             ([("Unanswered", "silo ended with 7: silo: not a silo", True, [])], None))
 
     # A file that is damaged: it may have been so only since the run began, so nothing is said of what was carried.
     with open(os.path.join(folder("damaged"), "manager-0.otx"), "r+b") as file:
@@ -111,9 +111,11 @@ with tempfile.TemporaryDirectory() as room:
     sales = [("shop/0.sell", [5]), ("account/1.add", [7]), ("shop/0.sell", [1])]
     with silo.Silo(folder("two", NESTED), program) as it:
         rows.row("the fault of a child's abort", it.batch(sales), [13, 7, 8])
-        rows.row("the fault of a child's abort: the log", [record.get("fault", record.get("reply")) for record in it.history() if "n" in record], [7, "aborted", 8, 13])
+        rows.row("the fault of a child's abort: the log", [record.get("fault", record.get("reply")) for record in it.history() if "n" in record],
+                 [7, "aborted", 8, 13])
     with silo.Silo(folder("three", NESTED), turned(room, "once", "0,1"), tries=1) as it:
-        rows.row("one try", [shown(result) for result in it.batch([("account/1.deposit", [5]), ("account/1.deposit", [6])])], [5, ("Aborted", "aborted lock, by 1, grain account/1", True, [])])
+        found = it.batch([("account/1.deposit", [5]), ("account/1.deposit", [6])])
+        rows.row("one try", [shown(result) for result in found], [5, ("Aborted", "aborted lock, by 1, grain account/1", True, [])])
     always = stand_in(room, "always", f'echo "${{@:2}}" >>"{room}/always.asked"', "n=0", 'while [ "$2" = run ] && read -r _; do',
                       """n=$((n + 1)); echo '{"aborted":"lock","by":1,"grain":"account/1","n":'$n',"unit":'$((n + 1))'}'""", "done")
     with silo.Silo(folder("four", NESTED), always, width=8, tries=3) as it:
@@ -133,12 +135,16 @@ with tempfile.TemporaryDirectory() as room:
     # Runs that end early: a closed output, which a record answers; a plain run, of which what it began is told; a disk fault.
     mute = stand_in(room, "mute", f'[ "$2" != run ] || exec "{PROGRAM}" "$@" >&-', f'exec "{PROGRAM}" "$@"')
     with silo.Silo(bank, mute, width=1) as it:
-        rows.row("a call that is logged and not answered", [shown(result) for result in it.batch([("account/2.deposit", [1])] * 2)], [10, ("Unanswered", "silo ended with 5: silo: write fault", True, [])])
+        found = it.batch([("account/2.deposit", [1])] * 2)
+        rows.row("a call that is logged and not answered", [shown(result) for result in found],
+                 [10, ("Unanswered", "silo ended with 5: silo: write fault", True, [])])
     with silo.Silo(folder("seven", NESTED), mute, width=1) as it:
-        rows.row("a plain run that isn't answered", [shown(result) for result in it.batch([("helper/0.pay", [5])])], [("Unanswered", "silo ended with 5: silo: write fault", False, [2])])
+        found = it.batch([("helper/0.pay", [5])])
+        rows.row("a plain run that isn't answered", [shown(result) for result in found], [("Unanswered", "silo ended with 5: silo: write fault", False, [2])])
         record = {"args": [5], "call": "account/1.deposit", "parent": 3, "reply": 10, "session": 2, "unit": 4}
         rows.row("the same by send", it.send([("helper/0.pay", [5])]), (5, "silo: write fault\n", [None], [record], 1))
-    doubt = stand_in(room, "doubt", f'echo "$2" >>"{room}/doubt.asked"', """[ "$2" != run ] || { echo '{"in_doubt":true,"n":1,"unit":4}'; echo "silo: disk fault in manager-0.otx" >&2; exit 6; }""")
+    doubt = stand_in(room, "doubt", f'echo "$2" >>"{room}/doubt.asked"', '[ "$2" = run ] || exit 0', """echo '{"in_doubt":true,"n":1,"unit":4}'""",
+                     'echo "silo: disk fault in manager-0.otx" >&2', "exit 6")
     with silo.Silo(bank, doubt) as it:
         found = it.batch([("account/1.deposit", [5]), ("account/1.deposit", [6])])
         for what, ask in (("a call", lambda: it.call("account/1.read")), ("a report", it.show)):
@@ -148,7 +154,8 @@ with tempfile.TemporaryDirectory() as room:
             except silo.Ended as ended:
                 raised = (ended.number, ended.text)
             rows.row(f"{what} behind it", raised, (6, "a batch is in doubt: " + silo.AFTER_DISK))
-    wanted = [("InDoubt", "unit 4 is in the log or isn't", False, None), ("Unanswered", "silo ended with 6: silo: disk fault in manager-0.otx\n" + silo.AFTER_DISK.strip(), False, None)]
+    wanted = [("InDoubt", "unit 4 is in the log or isn't", False, None),
+              ("Unanswered", "silo ended with 6: silo: disk fault in manager-0.otx\n" + silo.AFTER_DISK.strip(), False, None)]
     rows.row("a batch in doubt", ([shown(result) for result in found], found[0].before, asked(room, "doubt")), (wanted, 7, ["run"]))
     busy = silo.Silo(bank, PROGRAM)
     held = subprocess.Popen(["flock", bank, "sh", "-c", "echo; read -r line"], stdin=subprocess.PIPE, stdout=subprocess.PIPE)
@@ -166,7 +173,8 @@ with tempfile.TemporaryDirectory() as room:
     rows.row("parts", [list(silo.parts([b"aa", b"bb", b"ccc", b"d", b"e"], 4))], [[[0, 1], [2, 3], [4]]])
     with silo.Silo(folder("nine", NESTED), mute, width=1, limit=size) as it:
         found = it.batch([("account/1.deposit", [1])] * 3)
-        rows.row("behind an ended run", ([shown(result)[0] if isinstance(result, silo.SiloError) else result for result in found], [result.sent for result in found[1:]]), ([1, "Unanswered", "Unanswered"], [False, False]))
+        kinds = [type(result).__name__ if isinstance(result, silo.SiloError) else result for result in found]
+        rows.row("behind an ended run", (kinds, [result.sent for result in found[1:]]), ([1, "Unanswered", "Unanswered"], [False, False]))
     try:
         silo.line_of("a/1.m", ["x" * silo.LINE_LIMIT])
         found = None
@@ -196,6 +204,11 @@ with tempfile.TemporaryDirectory() as room:
     rows.row("records of format 1", silo.batches(sparse), [7, 2])
     os.remove(os.path.join(sparse, "manager-0.otx"))
     rows.row("records of no silo", (silo.records(sparse), silo.records(os.path.join(room, "none")), silo.records(__file__)), (None, None, None))
+    for what, make in (("a folder", os.mkdir), ("a pipe", os.mkfifo)):
+        at = os.path.join(sparse, "manager-0.otx")
+        make(at)
+        rows.row(f"records where {what} is in the log's place", silo.records(sparse), None)
+        (os.rmdir if what == "a folder" else os.remove)(at)
 
     # Clients take turns.
     with silo.Silo(bank, PROGRAM):
@@ -214,6 +227,14 @@ with tempfile.TemporaryDirectory() as room:
     except OSError as fault:
         raised = fault.filename
     rows.row("a run where no lock can be made", (raised, it.records()), (it.folder + ".lock", 1))
+
+    # A folder may be named by a path object, and in any way: the lock is the same.
+    here = os.getcwd()
+    os.chdir(bank)
+    with silo.Silo(pathlib.Path("."), PROGRAM) as it:
+        held = subprocess.run(["flock", "-n", bank + ".lock", "true"])
+        rows.row("the current folder", (held.returncode, it.records() == silo.records(bank), "..lock" in os.listdir(".")), (1, True, False))
+    os.chdir(here)
 
     # Which program: that of SILO, or the repository's, built or not.
     asks = "import silo; print(silo.find_program())"
@@ -237,7 +258,8 @@ with tempfile.TemporaryDirectory() as room:
     copy = os.path.join(room, "copy")
     shutil.copytree(os.path.join(TOP, "tools", "python"), copy)
     try:
-        words = [sys.executable, "-m", "pip", "install", "--quiet", "--no-index", "--no-deps", "--disable-pip-version-check", "--target", os.path.join(room, "site"), copy]
+        words = [sys.executable, "-m", "pip", "install", "--quiet", "--no-index", "--no-deps", "--disable-pip-version-check",
+                 "--target", os.path.join(room, "site"), copy]
         done = subprocess.run(words, capture_output=True, timeout=300)
         is_there = b"No module named pip" not in done.stderr
     except OSError:

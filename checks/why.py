@@ -1,4 +1,5 @@
 """tools/why: tells apart what is behind `disk fault in manager-0.otx` and `not a silo`, each of which has several causes."""
+import errno
 import importlib.machinery
 import importlib.util
 import os
@@ -8,7 +9,8 @@ import subprocess
 import sys
 import tempfile
 
-from harness import BANK, OTHER_USER, PROGRAM, TOP, Ended, Rows, deposit, run, silo_folder, start
+import shim
+from harness import BANK, OTHER_USER, PROGRAM, TOP, Ended, Rows, comes, deposit, run, silo_folder, start
 
 rows = Rows("why")
 WHY = os.path.join(TOP, "tools", "why")
@@ -68,6 +70,10 @@ with tempfile.TemporaryDirectory() as room:
     plain = os.path.join(room, "plain")
     shutil.copy(__file__, plain)
     tells("a file", plain, FAULT, f"{plain} is no folder")
+    # A name that isn't UTF-8, in a locale that is.
+    odd_name = os.path.join(os.fsencode(room), b"\xff")
+    done = subprocess.run([sys.executable, WHY, odd_name], capture_output=True, env={**os.environ, "LC_ALL": "C.UTF-8"})
+    rows.row("a name that isn't UTF-8", (done.returncode, done.stdout, done.stderr), (1, odd_name + b" isn't there: mkdir " + odd_name + b", then init\n", b""))
     pipe = folder("pipe")
     os.mkfifo(os.path.join(pipe, "manager-0.otx"))
     rows.row("a pipe for a file", why(pipe), (f"manager-0.otx in {pipe} is no file", 1))
@@ -76,8 +82,7 @@ with tempfile.TemporaryDirectory() as room:
     tells("a folder for a file", odd, FAULT, f"manager-0.otx in {odd} is no file", "run")
 
     going = start(bank, "run")
-    while not why(bank)[1]:
-        pass
+    rows.row("another process comes to have it", comes(lambda: why(bank)[1] == 1), True)
     rows.row("another process: silo", run(bank, "run"), FAULT)
     rows.row("another process", why(bank), (f"another process ({os.path.basename(PROGRAM)}, {going.pid}) has {bank}: wait for it (flock {bank} true)", 1))
     going.communicate(timeout=60)
@@ -87,6 +92,15 @@ with tempfile.TemporaryDirectory() as room:
     holder.communicate(b"\n", timeout=60)
     rows.row("nothing", why(bank), (NOTHING.format(bank), 0))
     rows.row("it left no lock", run(bank, "audit"), Ended(0, b'{"count":1,"first_bad":null}\n', b""))
+
+    # A disk that fails.
+    library = shim.build(room)
+    if library is None:
+        print("why: there is no C compiler here, so no call fails")
+    else:
+        fails = shim.words(library, kinds="read", names="manager-0.otx", at=1, fail=errno.EIO)
+        done = subprocess.run([sys.executable, WHY, bank], capture_output=True, env={**os.environ, **fails})
+        rows.row("a disk that fails", (done.returncode, done.stdout, done.stderr), (1, f"a call on {bank} failed: Input/output error\n".encode(), b""))
 
     # Permissions bind another user than the superuser.
     if os.geteuid() == 0:
@@ -105,7 +119,8 @@ with tempfile.TemporaryDirectory() as room:
         rows.row("a closed file: silo", as_other(shared, "run"), FAULT)
         rows.row("a closed file", why_other(shared), f"no permission to read and write manager-0.otx in {shared}: it is 600, of user 0, and this is user {me}")
         os.chmod(os.path.join(shared, "grain-0-0-1.otx"), 0o444)
-        rows.row("two closed files", why_other(shared), f"no permission to read and write manager-0.otx in {shared} and 1 more: it is 600, of user 0, and this is user {me}")
+        rows.row("two closed files", why_other(shared),
+                 f"no permission to read and write manager-0.otx in {shared} and 1 more: it is 600, of user 0, and this is user {me}")
         os.chmod(os.path.join(shared, "manager-0.otx"), 0o666)
         rows.row("a file for reading", why_other(shared), f"no permission to write grain-0-0-1.otx in {shared}: it is 444, of user 0, and this is user {me}")
         os.chmod(room, 0o700)
@@ -152,14 +167,16 @@ with tempfile.TemporaryDirectory() as room:
     before = os.stat(os.path.join(bank, "manager-0.otx"))
     rows.row("the current folder", why(".", cwd=bank), (NOTHING.format("."), 0))
     after = os.stat(os.path.join(bank, "manager-0.otx"))
-    rows.row("nothing was written", (before.st_mtime_ns, before.st_size, stat.S_IMODE(before.st_mode)), (after.st_mtime_ns, after.st_size, stat.S_IMODE(after.st_mode)))
+    rows.row("nothing was written", (before.st_mtime_ns, before.st_size, stat.S_IMODE(before.st_mode)),
+             (after.st_mtime_ns, after.st_size, stat.S_IMODE(after.st_mode)))
 
     # A small disk, and one that may only be read: where this process may mount one for itself.
     script = """mount -t tmpfs -o size=300k none "$1" && mkdir "$1/bank" && "$2" "$1/bank" init <"$3" && { head -c 1000000 /dev/zero >"$1/fill" 2>/dev/null
       "$4" "$5" "$1/bank"; rm "$1/fill"; mount -o remount,ro "$1"; "$2" "$1/bank" run </dev/null; echo $?; "$4" "$5" "$1/bank"; }; true"""
     at = folder("mounted")
     text = os.path.join(TOP, "examples", "bank", "bank.grain")
-    done = subprocess.run(["unshare", "-m", "sh", "-c", script, "sh", at, PROGRAM, text, sys.executable, WHY], capture_output=True) if shutil.which("unshare") else None
+    mounts = ["unshare", "-m", "sh", "-c", script, "sh", at, PROGRAM, text, sys.executable, WHY]
+    done = subprocess.run(mounts, capture_output=True) if shutil.which("unshare") else None
     bare = ["unshare", "-m", "sh", "-c", 'umount -l /proc && exec "$@"', "sh", sys.executable, WHY, bank]
     if done and done.stdout:
         rows.row("no /proc", subprocess.run(bare, capture_output=True).stdout, b"/proc isn't mounted, and silo looks for a folder's files under it\n")

@@ -244,6 +244,8 @@ def read(folder):
     print(json.dumps({"next_unit": following}))
 
 if __name__ == "__main__":
+    if len(sys.argv) != 2:
+        sys.exit(__doc__)
     try:
         read(sys.argv[1])
     except Damaged as damage:

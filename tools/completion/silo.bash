@@ -4,6 +4,9 @@
 _silo() {
   local word=${COMP_WORDS[COMP_CWORD]} before=${COMP_WORDS[COMP_CWORD - 1]} folder=${COMP_WORDS[1]} found
   COMPREPLY=()
+  # The folder as the shell will hand it over: without its backslashes, and its ~ as what that stands for.
+  folder=${folder//\\/}
+  folder=${folder/#\~\//$HOME/}
   # Behind a `<` stands a file.
   if [[ $before == "<" || $before == ">" ]]; then
     compopt -o default 2>/dev/null
@@ -11,10 +14,11 @@ _silo() {
   fi
   if [ "$COMP_CWORD" -eq 1 ]; then
     if [[ $word == -* ]]; then
-      mapfile -t COMPREPLY < <(compgen -W "--help" -- "$word")
+      # The launcher of the repository has it, the program itself hasn't.
+      [[ ${COMP_WORDS[0]} != */* ]] || mapfile -t COMPREPLY < <(compgen -W "--help" -- "$word")
     else
       compopt -o filenames 2>/dev/null
-      mapfile -t COMPREPLY < <(compgen -d -- "$word")
+      mapfile -t COMPREPLY < <(compgen -d -- "${word//\\/}")
     fi
     return
   fi

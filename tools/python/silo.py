@@ -130,10 +130,14 @@ def live_log(folder):
     slots = []
     for slot in (0, 1):
         try:
-            file = os.open(os.path.join(folder, f"manager-{slot}.otx"), os.O_RDONLY)
+            # What is no file is told at once: a pipe would be waited for.
+            file = os.open(os.path.join(folder, f"manager-{slot}.otx"), os.O_RDONLY | os.O_NONBLOCK)
         except OSError:
             continue
-        head = os.pread(file, 16, 0)
+        try:
+            head = os.pread(file, 16, 0)
+        except OSError:
+            head = b""
         if len(head) == 16 and head[:9] in (b"\1OTXLOG01", b"\1OTXLOG02"):
             slots.append((struct.unpack("<I", head[9:13])[0], -slot, file, head))
         else:
@@ -165,6 +169,8 @@ def batches(folder):
             else:
                 found.append(1 if count == UPGRADE else count)
             gate += 5 + length
+    except OSError:
+        return None
     finally:
         os.close(file)
 
@@ -221,13 +227,13 @@ class Silo:
     docs/OPERATIONS.md, and then another Silo goes on."""
 
     def __init__(self, folder, program=None, width=64, tries=5, limit=INPUT_LIMIT):
-        self.folder, self.program = folder, program or find_program()
+        self.folder, self.program = os.fspath(folder), program or find_program()
         self.width, self.tries, self.limit = width, tries, limit
         self._held, self._depth, self._is_in_doubt = None, 0, False
 
     def __enter__(self):
         if self._depth == 0:
-            self._held = open(self.folder.rstrip("/") + ".lock", "w")
+            self._held = open(os.path.abspath(self.folder) + ".lock", "w")
             fcntl.flock(self._held, fcntl.LOCK_EX)
         self._depth += 1
         return self
