@@ -14,8 +14,8 @@
 # beside it counts, and is told at the head by the system's load. It ends with 1 where one of them does. SILO names another program.
 top=$(cd "$(dirname "${BASH_SOURCE[0]}")/.." && pwd)
 count=${1:-20000} grains=${2:-1000000} real=${3:-/tmp} free=${4:-/dev/shm}
+[ -n "${SILO:-}" ] || "$top/tools/build" </dev/null || exit 1
 export SILO=${SILO:-$top/crates/silo/out/silo}
-[ -x "$SILO" ] || "$top/silo" </dev/null >/dev/null 2>&1
 failed=0
 
 # A heading, and what a script prints, a bit further in.

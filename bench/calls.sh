@@ -4,23 +4,24 @@
 #   [BEFORE=PROGRAM] bench/calls.sh [N] [WIDTH | --workers K]
 # Calls for memory, threads and libraries aren't counted. Where BEFORE names a program, each line is a call, how often that program
 # makes it, and how often the one here does; it fails where a command makes more calls in all than it did there, by more than 2.
-# 1,000 transfers at width 64: 921 fdatasync, 920 pwrite64, 972 statx, 70 openat, a write a reply. Each file is opened once, as long as
+# 1,000 transfers at width 64: 921 fdatasync, 920 pwrite64, 972 statx, 71 openat, a write a reply. Each file is opened once, as long as
 # its handle is kept, and looked for by its name before a write, by one statx, unless it was written last. The log of these opens with
-# a pread64 for each 65,536 bytes of it, one for the program's file and one for each grain's, 68 statx and 70 openat; 64 of the statx tell
+# a pread64 for each 65,536 bytes of it, one for the program's file and one for each grain's, 68 statx and 71 openat; 64 of the statx tell
 # once of each grain's file whether it is a regular one. The reports read the log once more and put out a write a line, and `audit` reads
 # each version; what still lies in a window takes no call.
 top=$(cd "$(dirname "${BASH_SOURCE[0]}")/.." && pwd)
-[ -n "${SILO:-}" ] || "$top/silo" </dev/null >/dev/null 2>&1
+[ -n "${SILO:-}" ] || "$top/tools/build" </dev/null || exit 1
 command -v strace >/dev/null || { echo "calls.sh: there is no strace here" >&2; exit 0; }
 n=${1:-1000}
 manner=(--width "${2:-1}")
 [ "${2:-}" != --workers ] || manner=(--workers "${3:-2}")
-exec python3 - "$top" "${SILO:-$top/crates/silo/out/silo}" "${BEFORE:-}" "$n" "${manner[@]}" <<'END'
+export PYTHONPATH=$top/bench
+exec python3 - "${BEFORE:-}" "$n" "${manner[@]}" <<'END'
 import os, subprocess, sys, tempfile
 
-top, here, before, count, manner = sys.argv[1], sys.argv[2], sys.argv[3], int(sys.argv[4]), sys.argv[5:]
-sys.path.insert(0, os.path.join(top, "bench"))
-import bank_lines
+import runs
+
+before, count, manner = sys.argv[1], int(sys.argv[2]), sys.argv[3:]
 
 # Calls by which a process gets memory, threads and its libraries, waits for another thread or ends.
 ASIDE = {"execve", "brk", "mmap", "munmap", "mprotect", "mremap", "madvise", "arch_prctl", "set_tid_address", "set_robust_list", "rseq", "prlimit64",
@@ -41,11 +42,11 @@ def counted(program, folder, given, *words):
 
 def all_counts(program):
     """The counts of each command, over a new silo."""
-    lines = bank_lines.transfers(count)
+    lines = runs.transfers(count)
     with tempfile.TemporaryDirectory() as room:
         folder = os.path.join(room, "silo")
         os.mkdir(folder)
-        found = {"init": counted(program, folder, bank_lines.bank(top), "init")}
+        found = {"init": counted(program, folder, runs.bank(), "init")}
         subprocess.run([program, folder, "run", "--width", "64"], input=b"".join(lines[:64]), stdout=subprocess.DEVNULL, check=True)
         found[f"run {' '.join(manner)}, {count} transfers"] = counted(program, folder, b"".join(lines[64:]), "run", *manner)
         found["run, no line"] = counted(program, folder, b"", "run")
@@ -53,7 +54,7 @@ def all_counts(program):
             found[report] = counted(program, folder, b"", report)
     return found
 
-now = all_counts(here)
+now = all_counts(runs.PROGRAM)
 old = all_counts(before) if before else None
 more = []
 for command, calls in now.items():

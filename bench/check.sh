@@ -4,7 +4,7 @@
 # many times as long the first took. Ends with 1 where 10,000 starts took more than 3 seconds or 100 MB.
 # docs/TWO-SILOS.md ("Cost") has more figures, and the counts.
 top=$(cd "$(dirname "${BASH_SOURCE[0]}")/.." && pwd)
-[ -n "${SILO:-}" ] || "$top/silo" </dev/null >/dev/null 2>&1
+[ -n "${SILO:-}" ] || "$top/tools/build" </dev/null || exit 1
 exec python3 - "${SILO:-$top/crates/silo/out/silo}" "$@" <<'END'
 import os, subprocess, sys, time
 

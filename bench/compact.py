@@ -3,20 +3,19 @@
 
 Each folder is made by docs/FORMATS.md alone, beneath PLACE (the folder for temporary files where none is given): so many records, a
 block each, of deposits on so many grains in turn. Then the built program opens it, by a run without lines, writes it anew three times,
-and opens it again. Told are the seconds and the most memory of each, and the bytes of the two manager files. Where SILO names a
-program, that one is timed.
+and opens it again. Told are the seconds and the most memory of each, and the bytes of the two manager files. It ends with 1 where one of
+these fails. Where SILO names a program, that one is timed.
 """
 import os
 import struct
 import subprocess
 import sys
 import tempfile
-import time
 
-TOP = os.path.dirname(os.path.dirname(os.path.abspath(__file__)))
-PROGRAM = os.environ.get("SILO", os.path.join(TOP, "crates", "silo", "out", "silo"))
-sys.path.insert(0, os.path.join(TOP, "checks"))
-from harness import FIRST_PROGRAM
+import runs
+
+sys.path.insert(0, os.path.join(runs.TOP, "checks"))
+from harness import FIRST_PROGRAM  # noqa: E402
 
 
 def integer(number):
@@ -47,27 +46,12 @@ def make(folder, grains, records):
             file.write(b"".join(here))
 
 
-def peak(process):
-    """The most memory that the process itself has had so far, in bytes, while it runs."""
-    try:
-        with open(f"/proc/{process.pid}/status") as told:
-            return next((int(line.split()[1]) * 1024 for line in told if line.startswith("VmHWM")), 0)
-    except OSError:
-        return 0
-
-
 def timed(what, folder, *words):
-    """Runs the program, and tells how long it took and how much memory it had at most. What the system tells of a child's memory counts
-    the process that it came from, so it is asked for while the child runs."""
-    began, most = time.time(), 0
-    process = subprocess.Popen([PROGRAM, folder, *words], stdin=subprocess.DEVNULL, stdout=subprocess.DEVNULL)
-    while os.waitid(os.P_PID, process.pid, os.WEXITED | os.WNOWAIT | os.WNOHANG) is None:
-        most = max(most, peak(process))
-        time.sleep(0.005)
-    took = time.time() - began
-    _, status, used = os.wait4(process.pid, 0)
-    process.returncode = os.waitstatus_to_exitcode(status)
-    print(f"  {what}: {took:.2f} s, of them {used.ru_utime + used.ru_stime:.2f} s of a processor; {most / 1e6:.0f} MB at most; {process.returncode}", flush=True)
+    """Runs the program, and tells how long it took and how much memory it had at most."""
+    taken = runs.taken_by((folder, *words), stdin=subprocess.DEVNULL, stdout=subprocess.DEVNULL)
+    if taken.number != 0:
+        sys.exit(f"compact.py: {' '.join(words)} ended with {taken.number}")
+    print(f"  {what}: {taken.clock:.2f} s, of them {taken.processor:.2f} s of a processor; {taken.peak / 1e6:.0f} MB at most", flush=True)
 
 
 words = sys.argv[1:]
@@ -82,4 +66,5 @@ for grains, records in sizes:
         for turn in ("first", "second", "third"):
             timed(f"written anew, the {turn} time", folder, "compact")
             timed("opened", folder, "run")
-        print("  bytes of the manager files:", *(os.path.getsize(os.path.join(folder, f"manager-{slot}.otx")) for slot in (0, 1)), flush=True)
+        sizes_of_logs = [os.path.getsize(os.path.join(folder, f"manager-{slot}.otx")) for slot in (0, 1)]
+        print("  bytes of the manager files:", *sizes_of_logs, flush=True)

@@ -8,7 +8,7 @@
 # Fails where a line has not its one reply, an abort is of another cause than a lock, the grain's state isn't what the replies say, or
 # a case has more than 5 % of its lines aborted or a reply that is more than 2,000 places late.
 top=$(cd "$(dirname "${BASH_SOURCE[0]}")/.." && pwd)
-[ -n "${SILO:-}" ] || "$top/silo" </dev/null >/dev/null 2>&1
+[ -n "${SILO:-}" ] || "$top/tools/build" </dev/null || exit 1
 exec python3 - "${SILO:-$top/crates/silo/out/silo}" "${1:-3}" "${2:-/dev/shm}" <<'END'
 import json, os, subprocess, sys, tempfile, time
 

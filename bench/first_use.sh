@@ -12,31 +12,24 @@
 # counted (`/proc/PID/io`: lines and other files too, a few). The bytes a grain are those of the opening beyond an empty silo's; the reads of
 # the touched ones are those beyond the opening's. It ends with 1 where a run isn't answered as it has to be. SILO names another program.
 top=$(cd "$(dirname "${BASH_SOURCE[0]}")/.." && pwd)
-[ -n "${SILO:-}" ] || "$top/silo" </dev/null >/dev/null 2>&1
-exec python3 - "$top" "$@" <<'END'
+[ -n "${SILO:-}" ] || "$top/tools/build" </dev/null || exit 1
+export PYTHONPATH=$top/bench
+exec python3 - "$@" <<'END'
 import itertools
 import json
 import math
 import os
 import shutil
 import struct
-import subprocess
 import sys
 import tempfile
 import time
-from collections import namedtuple
 
-top, words = sys.argv[1], sys.argv[2:]
-grains, touched = (int(words[at]) if len(words) > at else count for at, count in enumerate((1_000_000, 5_000)))
-place = words[2] if len(words) > 2 else "/tmp"
-free = words[3] if len(words) > 3 else "/dev/shm" if os.path.isdir("/dev/shm") else place
-count = int(words[4]) if len(words) > 4 else 20_000
-program = os.environ.get("SILO", os.path.join(top, "crates", "silo", "out", "silo"))
-sys.path.insert(0, os.path.join(top, "bench"))
-from bank_lines import bank, transfers
+import runs
 
-# What a process took: seconds, seconds of a processor, bytes of memory and reads.
-Taken = namedtuple("Taken", "clock processor peak reads")
+grains, touched, place, free, count = runs.words("1000000", "5000", "/tmp", "", "20000")
+grains, touched, count = int(grains), int(touched), int(count)
+free = free or ("/dev/shm" if os.path.isdir("/dev/shm") else place)
 
 
 def integer(number):
@@ -45,7 +38,7 @@ def integer(number):
 
 def make(folder):
     """A folder of so many accounts, each with a deposit of its own: unit k + 1 gave account k its k + 1."""
-    text = bank(top)
+    text = runs.bank()
     with open(os.path.join(folder, "program-0.otx"), "wb") as file:
         file.write(struct.pack("<I", len(text)) + text)
     with open(os.path.join(folder, "manager-0.otx"), "wb") as manager:
@@ -66,48 +59,32 @@ def make(folder):
         manager.write(b"\0")
 
 
-def figure(pid, name, word):
-    """The number behind a word in a process's file of /proc, 0 where it isn't there any more."""
-    try:
-        with open(f"/proc/{pid}/{name}") as told:
-            return next((int(line.split()[1]) for line in told if line.startswith(word)), 0)
-    except OSError:
-        return 0
-
-
 def once(words, given=b""):
-    """Runs the program, and answers what it wrote and what it took. The memory and the reads are asked for while it runs, and the reads
-    once more when it has ended: what the system tells of a child's memory counts the process that it came from."""
+    """Runs the program, and answers what it wrote and what it took."""
     with tempfile.TemporaryFile() as lines, tempfile.TemporaryFile() as output:
         lines.write(given)
         lines.seek(0)
-        begun, peak = time.monotonic(), 0
-        ran = subprocess.Popen([program, *words], stdin=lines, stdout=output)
-        while os.waitid(os.P_PID, ran.pid, os.WEXITED | os.WNOWAIT | os.WNOHANG) is None:
-            peak = max(peak, figure(ran.pid, "status", "VmHWM:") * 1024)
-            time.sleep(0.002)
-        clock, reads = time.monotonic() - begun, figure(ran.pid, "io", "syscr:")
-        _, status, used = os.wait4(ran.pid, 0)
-        ran.returncode = os.waitstatus_to_exitcode(status)
-        if ran.returncode != 0:
-            sys.exit(f"first_use.sh: {' '.join(words)} ended with {ran.returncode}")
+        taken = runs.taken_by(words, stdin=lines, stdout=output)
+        if taken.number != 0:
+            sys.exit(f"first_use.sh: {' '.join(words)} ended with {taken.number}")
         output.seek(0)
-        return output.read(), Taken(clock, used.ru_utime + used.ru_stime, peak, reads)
+        return output.read(), taken
 
 
 def least(each):
-    return Taken(*(min(column) for column in zip(*each)))
+    return runs.Taken(*(min(column) for column in zip(*each)))
 
 
 def tell(what, taken, more=""):
-    print(f"{what}: {taken.clock:.2f} s, of them {taken.processor:.2f} s of a processor; {taken.peak / 1e6:.1f} MB at most; {taken.reads:,} reads{more}", flush=True)
+    print(f"{what}: {taken.clock:.2f} s, of them {taken.processor:.2f} s of a processor; {taken.peak / 1e6:.1f} MB at most; "
+          f"{taken.reads:,} reads{more}", flush=True)
 
 
 def new_silo(room, *words, given=b""):
     """What a run in a new silo took, which is made beforehand where it is no `load`."""
     with tempfile.TemporaryDirectory(dir=room) as folder:
         if words[0] == "run":
-            once((folder, "init"), bank(top))
+            once((folder, "init"), runs.bank())
         return once((folder, *words), given)
 
 
@@ -125,7 +102,7 @@ with tempfile.TemporaryDirectory(dir=place) as room:
     print(f"{grains:,} grains, made in {time.monotonic() - begun:.0f} s", flush=True)
     empty = os.path.join(room, "empty")
     os.mkdir(empty)
-    once((empty, "init"), bank(top))
+    once((empty, "init"), runs.bank())
     none = least([once((empty, "run"))[1] for _ in range(3)])
     opened = least([once((folder, "run"))[1] for _ in range(3)])
     tell("opened", opened, f"; {(opened.peak - none.peak) / grains:.0f} bytes a grain")
@@ -139,7 +116,7 @@ with tempfile.TemporaryDirectory(dir=place) as room:
     tell(f"{len(set(keys)):,} of them read, some twice", least(told), f", {least(told).reads - opened.reads:,} beyond an opening's")
     shutil.rmtree(folder)
 
-lines, load = b"".join(transfers(count)), ("load", str(count), "7", "--width", "8")
+lines, load = b"".join(runs.transfers(count)), ("load", str(count), "7", "--width", "8")
 tell(f"{count:,} transfers at width 64", least([new_silo(free, "run", "--width", "64", given=lines)[1] for _ in range(5)]))
 tell(" ".join(load), least([new_silo(free, *load)[1] for _ in range(5)]))
 END

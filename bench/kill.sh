@@ -7,15 +7,17 @@
 # replies the kill cut off; no aborted unit has a record; and the balances make 64,000. The next round goes on over that folder.
 # A killed process leaves what it has written, synced or not; what a lost sync leaves is tested over the host in memory.
 top=$(cd "$(dirname "${BASH_SOURCE[0]}")/.." && pwd)
-[ -n "${SILO:-}" ] || "$top/silo" </dev/null >/dev/null 2>&1
-exec python3 - "$top" "${SILO:-$top/crates/silo/out/silo}" "${1:-20}" "${2:-2000}" "${3:-8}" "${4:-}" <<'END'
+[ -n "${SILO:-}" ] || "$top/tools/build" </dev/null || exit 1
+export PYTHONPATH=$top/bench
+exec python3 - "$@" <<'END'
 import json, os, random, signal, subprocess, sys, tempfile, time
 
-top, program, rounds, count = sys.argv[1], sys.argv[2], int(sys.argv[3]), int(sys.argv[4])
-manner = ["--workers", sys.argv[6]] if sys.argv[5] == "--workers" else ["--width", sys.argv[5]]
-reader = os.path.join(top, "examples", "reader", "read.py")
-with open(os.path.join(top, "examples", "bank", "bank.grain"), "rb") as file:
-    bank = file.read()
+import runs
+
+rounds, count, *manner = runs.words("20", "2000", "8")
+rounds, count, program = int(rounds), int(count), runs.PROGRAM
+manner = manner if manner[0] == "--workers" else ["--width", manner[0]]
+reader = os.path.join(runs.TOP, "examples", "reader", "read.py")
 
 def fail(text):
     sys.exit(f"kill.sh: {text}")
@@ -32,10 +34,8 @@ def result_of(reply):
     return reply["reply"] if "reply" in reply else {"fault": reply["fault"]}
 
 with tempfile.TemporaryDirectory() as room:
-    folder, names = os.path.join(room, "silo"), [os.path.join(room, name) for name in ("requests", "replies")]
-    os.mkdir(folder)
-    subprocess.run([program, folder, "init"], input=bank, check=True)
-    made = subprocess.run([program, folder, "run"], input=b"".join(line(f"account/{key}.deposit", 1000) for key in range(64)), stdout=subprocess.PIPE, check=True)
+    folder, names = runs.new_bank(room), [os.path.join(room, name) for name in ("requests", "replies")]
+    made = subprocess.run([program, folder, "run"], input=b"".join(runs.transfers(0)), stdout=subprocess.PIPE, check=True)
     if made.stdout.count(b'"reply"') != 64:
         fail("the accounts weren't made")
     records, total = look(folder)

@@ -18,17 +18,25 @@ fail() {
   exit 1
 }
 
+for what in "$@"; do
+  case $what in
+    texts | steps | worst | stack) ;;
+    *) fail "there is no part $what: it has texts, steps, worst and stack" ;;
+  esac
+done
+
 needs=$(sed -n 's/^script_machine: //p' "$top/crates.txt")
 [ -n "$needs" ] || fail "script_machine isn't listed"
 needs="$needs script_lexer script_expressions script_parser script_scopes script_machine"
-mkdir -p "$work/crates/language_bench/src" "$work/texts"
+mkdir -p "$work/crates" "$work/texts"
 for crate in $needs; do
   [ -d "$work/crates/$crate" ] && continue
   mkdir "$work/crates/$crate"
   cp -r "$top/crates/$crate"/{src,specs,proofs} "$work/crates/$crate/" 2>/dev/null
   grep "^$crate:" "$top/crates.txt" >>"$work/crates.txt"
 done
-echo "language_bench: $(ls "$work/crates" | grep -v language_bench | tr '\n' ' ')" >>"$work/crates.txt"
+echo "language_bench: $(cd "$work/crates" && echo *)" >>"$work/crates.txt"
+mkdir -p "$work/crates/language_bench/src"
 
 cat >"$work/crates/language_bench/src/main.rt" <<'PROGRAM'
 //! Times the readers of the grain language and its machine over texts.
@@ -328,9 +336,9 @@ unit() {
 
 # The texts are timed in turns, so that what else the machine does falls on all of them.
 steps() {
-  local at text count number
+  local text count number
   local -A least=()
-  for at in 1 2 3 4 5; do
+  for _ in 1 2 3 4 5; do
     for text in steps-1 steps-100 steps-1000 steps-10000 calls-0 calls-63; do
       case $text in
         steps-*) unit "$text" 0 ;;
@@ -369,7 +377,8 @@ stack() {
   done
 }
 
-for what in ${*:-texts steps worst stack}; do
+[ $# -gt 0 ] || set -- texts steps worst stack
+for what in "$@"; do
   "$what"
 done
 [ -z "$bad" ] || fail "too much:$bad"

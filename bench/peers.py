@@ -18,25 +18,10 @@ import sys
 import tempfile
 import time
 
-top = os.path.dirname(os.path.dirname(os.path.abspath(__file__)))
-sys.path.insert(0, os.path.join(top, "bench"))
-import bank_lines
+import runs
 
-program = os.environ.get("SILO", os.path.join(top, "crates", "silo", "out", "silo"))
-count = int(sys.argv[1]) if len(sys.argv) > 1 else 20000
-real = sys.argv[2] if len(sys.argv) > 2 else "/tmp"
-free = sys.argv[3] if len(sys.argv) > 3 else "/dev/shm"
-
-
-def drawn():
-    """The accounts and the amount of each transfer."""
-    numbers = 7
-    for _ in range(count):
-        parts = []
-        for _ in range(3):
-            numbers = (numbers * 6364136223846793005 + 1442695040888963407) % 2**64
-            parts.append(numbers // 2147483648 // 4)
-        yield parts[0] % 64, parts[1] % 64, parts[2] % 100 + 1
+count, real, free = runs.words("20000", "/tmp", "/dev/shm")
+count = int(count)
 
 
 def in_sqlite(path, in_one):
@@ -47,7 +32,7 @@ def in_sqlite(path, in_one):
         db.execute("PRAGMA synchronous = FULL")
     db.execute("CREATE TABLE account (key INTEGER PRIMARY KEY, balance INTEGER NOT NULL)")
     db.executemany("INSERT INTO account VALUES (?, 1000)", [(key,) for key in range(64)])
-    transfers = list(drawn())
+    transfers = list(runs.drawn_transfers(count))
     run = db.execute
     begun = time.monotonic()
     for at, (one, other, amount) in enumerate(transfers):
@@ -74,20 +59,18 @@ def in_file(place, in_one):
 def in_silo(place):
     """The seconds that a run of them takes at width 64, opening and 64 deposits included."""
     with tempfile.TemporaryDirectory(dir=place) as room:
-        folder = os.path.join(room, "silo")
-        os.mkdir(folder)
-        subprocess.run([program, folder, "init"], input=bank_lines.bank(top), check=True)
+        folder = runs.new_bank(room)
         names = [os.path.join(room, name) for name in ("requests", "replies")]
         with open(names[0], "wb") as file:
-            file.write(b"".join(bank_lines.transfers(count)))
+            file.write(b"".join(runs.transfers(count)))
         with open(names[0], "rb") as given, open(names[1], "wb") as replies:
             begun = time.monotonic()
-            subprocess.run([program, folder, "run", "--width", "64"], stdin=given, stdout=replies, check=True)
+            subprocess.run([runs.PROGRAM, folder, "run", "--width", "64"], stdin=given, stdout=replies, check=True)
             took = time.monotonic() - begun
         with open(names[1], "rb") as file:
             if file.read().count(b"\n") != count + 64:
                 sys.exit("peers.py: a line has no reply")
-        shown = subprocess.run([program, folder, "show"], stdout=subprocess.PIPE, check=True).stdout
+        shown = subprocess.run([runs.PROGRAM, folder, "show"], stdout=subprocess.PIPE, check=True).stdout
         if sum(int(line.split(b'"balance":')[1].split(b"}")[0]) for line in shown.split(b"\n") if b'"balance":' in line) != 64000:
             sys.exit("peers.py: the silo made or lost money")
         return took

@@ -19,14 +19,10 @@ import sys
 import tempfile
 import time
 
-top = os.path.dirname(os.path.dirname(os.path.abspath(__file__)))
-sys.path.insert(0, os.path.join(top, "bench"))
-import bank_lines
+import runs
 
-program = os.environ.get("SILO", os.path.join(top, "crates", "silo", "out", "silo"))
-count = int(sys.argv[1]) if len(sys.argv) > 1 else 100_000
-real = sys.argv[2] if len(sys.argv) > 2 else "/tmp"
-free = sys.argv[3] if len(sys.argv) > 3 else "/dev/shm"
+count, real, free = runs.words("100000", "/tmp", "/dev/shm")
+count = int(count)
 DEPOSIT = b'{"args":[1],"call":"account/5.deposit"}\n'
 
 
@@ -36,7 +32,7 @@ def once(words, given=b"", wanted=0):
         lines.write(given)
         lines.seek(0)
         begun = time.monotonic()
-        ran = subprocess.Popen([program, *words], stdin=lines, stdout=subprocess.DEVNULL)
+        ran = subprocess.Popen([runs.PROGRAM, *words], stdin=lines, stdout=subprocess.DEVNULL)
         _, status, used = os.wait4(ran.pid, 0)
         ran.returncode = 0
         if os.waitstatus_to_exitcode(status) != wanted:
@@ -53,7 +49,7 @@ def least(made, times):
 def made_silo(place, width, lines):
     folder = os.path.join(place, f"silo-{width}-{len(lines)}")
     os.mkdir(folder)
-    once([folder, "init"], bank_lines.bank(top))
+    once([folder, "init"], runs.bank())
     once([folder, "run", "--width", width], b"".join(lines))
     return folder
 
@@ -74,10 +70,11 @@ def one_line():
     # The opening syncs the manager file, and the batch its grain's file and twice the manager file.
     for name, place in (("real", real), ("free", free)):
         with tempfile.TemporaryDirectory(dir=place) as room:
-            folder = made_silo(room, "64", bank_lines.transfers(0))
+            folder = made_silo(room, "64", runs.transfers(0))
             took, spent = least(lambda: once([folder, "run"], DEPOSIT), 15)
             [syncs] = least(lambda: bare(room, 4), 15)
-            print(f"run of one line, {name} syncs: {1e3 * took:.2f} ms, {1e3 * syncs:.2f} of these as many bare syncs; {1e3 * spent:.2f} ms of the processor")
+            print(f"run of one line, {name} syncs: {1e3 * took:.2f} ms, {1e3 * syncs:.2f} of these as many bare syncs; "
+                  f"{1e3 * spent:.2f} ms of the processor")
 
 
 def calls(words):
@@ -85,7 +82,9 @@ def calls(words):
     if shutil.which("strace") is None:
         return "no strace"
     with tempfile.NamedTemporaryFile(dir=free) as told:
-        subprocess.run(["strace", "-f", "-c", "-o", told.name, program, *words], stdin=subprocess.DEVNULL, stdout=subprocess.DEVNULL, check=True)
+        traced = ["strace", "-f", "-c", "-o", told.name, runs.PROGRAM, *words]
+        if subprocess.run(traced, stdin=subprocess.DEVNULL, stdout=subprocess.DEVNULL, stderr=subprocess.DEVNULL).returncode != 0:
+            return "nothing can be traced"
         rows = [line.split() for line in told.read().decode().splitlines()]
     counts = {row[-1]: row[3] for row in rows if len(row) >= 5 and row[3].isdigit()}
     return ", ".join(f"{counts.get(name, 0)} {name}" for name in ("pread64", "statx", "openat"))
@@ -94,17 +93,18 @@ def calls(words):
 def opening():
     for width in ("64", "1"):
         with tempfile.TemporaryDirectory(dir=free) as room:
-            folder = made_silo(room, width, bank_lines.transfers(count))
+            folder = made_silo(room, width, runs.transfers(count))
             size = os.path.getsize(os.path.join(folder, "manager-0.otx"))
             took, spent = least(lambda: once([folder, "run"]), 5)
-            print(f"opening of {count + 64} records and {size} bytes, width {width}: {took:.3f} s, {1e6 * spent / count:.2f} us of the processor a record; {calls([folder, 'run'])}")
+            print(f"opening of {count + 64} records and {size} bytes, width {width}: {took:.3f} s, "
+                  f"{1e6 * spent / count:.2f} us of the processor a record; {calls([folder, 'run'])}")
             took, spent = least(lambda: once([folder, "audit"]), 3)
             print(f"audit: {took:.3f} s, {spent:.3f} s of the processor; {calls([folder, 'audit'])}")
 
 
 def texts(room):
     """The texts of bench/language.sh, by the part of it that writes them."""
-    with open(os.path.join(top, "bench", "language.sh"), encoding="utf-8") as file:
+    with open(os.path.join(runs.TOP, "bench", "language.sh"), encoding="utf-8") as file:
         written = re.search(r"^python3 - \"\$work/texts\" <<'END'[^\n]*\n(.*?)^END$", file.read(), re.M | re.S)
     subprocess.run([sys.executable, "-", room], input=written[1].encode(), check=True)
     with open(os.path.join(room, "shapes"), encoding="utf-8") as file:

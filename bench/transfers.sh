@@ -19,42 +19,33 @@
 #   moves, 5,000 are the agents
 # By samples a seventh of the time is the system's: the file of each grain that a batch wrote is looked for by its name, written and synced.
 top=$(cd "$(dirname "${BASH_SOURCE[0]}")/.." && pwd)
-[ -n "${SILO:-}" ] || "$top/silo" </dev/null >/dev/null 2>&1
-exec python3 - "$top" "${SILO:-$top/crates/silo/out/silo}" "$@" <<'END'
-import os, resource, subprocess, sys, tempfile, time
+[ -n "${SILO:-}" ] || "$top/tools/build" </dev/null || exit 1
+export PYTHONPATH=$top/bench:$top/examples/reader
+exec python3 - "$@" <<'END'
+import os, subprocess, sys, tempfile, time
 
-top, program, *words = sys.argv[1:]
-count, width, place = words + ["20000", "64", "/tmp"][len(words):]
-count = int(count)
-sys.path.insert(0, os.path.join(top, "examples", "reader"))
 import read
+import runs
 
-sys.path.insert(0, os.path.join(top, "bench"))
-import bank_lines
-
-bank, lines = bank_lines.bank(top), bank_lines.transfers(count)
+count, width, place = runs.words("20000", "64", "/tmp")
+lines = runs.transfers(int(count))
 
 with tempfile.TemporaryDirectory(dir=place) as room:
-    folder = os.path.join(room, "silo")
-    os.mkdir(folder)
-    subprocess.run([program, folder, "init"], input=bank, check=True)
+    folder = runs.new_bank(room)
     names = [os.path.join(room, name) for name in ("requests", "replies")]
     with open(names[0], "wb") as file:
         file.write(b"".join(lines))
     with open(names[0], "rb") as given, open(names[1], "wb") as replies:
-        before = resource.getrusage(resource.RUSAGE_CHILDREN)
-        begun = time.monotonic()
-        running = subprocess.Popen([program, folder, "run", "--width", width], stdin=given, stdout=replies)
-        peak = 0
+        before = runs.processor()
+        begun, peak = time.monotonic(), 0
+        running = subprocess.Popen([runs.PROGRAM, folder, "run", "--width", width], stdin=given, stdout=replies)
         while running.poll() is None:
-            with open(f"/proc/{running.pid}/status") as file:
-                peak = max([peak, *(int(line.split()[1]) for line in file if line.startswith("VmHWM"))])
+            peak = max(peak, runs.peak(running.pid))
             time.sleep(0.005)
         took = time.monotonic() - begun
     if running.returncode != 0:
         sys.exit(f"transfers.sh: the run ended with {running.returncode}")
-    after = resource.getrusage(resource.RUSAGE_CHILDREN)
-    user, system = after.ru_utime - before.ru_utime, after.ru_stime - before.ru_stime
+    user, system = (after - earlier for after, earlier in zip(runs.processor(), before))
     with open(names[1], "rb") as file:
         replies = file.read().split(b"\n")[:-1]
     if len(replies) != len(lines):
@@ -80,5 +71,5 @@ with tempfile.TemporaryDirectory(dir=place) as room:
     bare = time.monotonic() - begun
     print(f"{len(lines)} requests at width {width} in {took:.2f} s: {len(lines) / took:.0f} a second, {aborted} aborted; "
           f"{1e6 * user / len(lines):.1f} us of user time and {1e6 * system / len(lines):.1f} us of the system's each")
-    print(f"{batches} batches, {syncs} syncs; as many bare ones took {bare:.2f} s: ratio {took / bare:.2f}; peak {peak} kB")
+    print(f"{batches} batches, {syncs} syncs; as many bare ones took {bare:.2f} s: ratio {took / bare:.2f}; peak {peak // 1024} kB")
 END

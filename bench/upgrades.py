@@ -7,28 +7,26 @@ without lines, and the least and the middle of so many seconds of a processor ar
 Where SILO names a program, that one is timed.
 """
 import os
-import resource
 import shutil
 import statistics
 import subprocess
 import sys
 import tempfile
 
-TOP = os.path.dirname(os.path.dirname(os.path.abspath(__file__)))
-PROGRAM = os.environ.get("SILO", os.path.join(TOP, "crates", "silo", "out", "silo"))
+import runs
+
 OPENINGS = 11
 
 
 def run(folder, *words, given=b""):
-    subprocess.run([PROGRAM, folder, *words], input=given, stdout=subprocess.DEVNULL, check=True)
+    subprocess.run([runs.PROGRAM, folder, *words], input=given, stdout=subprocess.DEVNULL, check=True)
 
 
 def opened(folder):
     """The seconds of a processor that an opening takes."""
-    before = resource.getrusage(resource.RUSAGE_CHILDREN)
+    before = sum(runs.processor())
     run(folder, "run")
-    after = resource.getrusage(resource.RUSAGE_CHILDREN)
-    return after.ru_utime + after.ru_stime - before.ru_utime - before.ru_stime
+    return sum(runs.processor()) - before
 
 
 words = sys.argv[1:]

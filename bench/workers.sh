@@ -10,15 +10,15 @@
 # every call on a file: that holds them. All threads reach the core by one turn, which a transfer takes 19 times: of all samples 15 %
 # wait for it by one worker, 24 % by two and 26 % by four. More threads wait more, and waiting takes processors.
 top=$(cd "$(dirname "${BASH_SOURCE[0]}")/.." && pwd)
-[ -n "${SILO:-}" ] || "$top/silo" </dev/null >/dev/null 2>&1
-exec python3 - "$top" "${SILO:-$top/crates/silo/out/silo}" "${1:-20000}" "${2:-/tmp}" "${3:-/dev/shm}" <<'END'
-import json, os, resource, subprocess, sys, tempfile, time
+[ -n "${SILO:-}" ] || "$top/tools/build" </dev/null || exit 1
+export PYTHONPATH=$top/bench
+exec python3 - "$@" <<'END'
+import json, subprocess, sys, tempfile, time
 
-top, program, count, real, free = sys.argv[1], sys.argv[2], int(sys.argv[3]), sys.argv[4], sys.argv[5]
-sys.path.insert(0, os.path.join(top, "bench"))
-import bank_lines
+import runs
 
-bank, lines = bank_lines.bank(top), bank_lines.transfers(count)
+count, real, free = runs.words("20000", "/tmp", "/dev/shm")
+lines = runs.transfers(int(count))
 given = b"".join(lines)
 
 def fail(text):
@@ -26,25 +26,20 @@ def fail(text):
 
 def timed(place, words):
     with tempfile.TemporaryDirectory(dir=place) as room:
-        folder = os.path.join(room, "silo")
-        os.mkdir(folder)
-        subprocess.run([program, folder, "init"], input=bank, check=True)
-        before = resource.getrusage(resource.RUSAGE_CHILDREN)
-        begun = time.monotonic()
-        ran = subprocess.run([program, folder, "run", *words], input=given, stdout=subprocess.PIPE)
-        took = time.monotonic() - begun
-        after = resource.getrusage(resource.RUSAGE_CHILDREN)
+        folder = runs.new_bank(room)
+        before, begun = sum(runs.processor()), time.monotonic()
+        ran = subprocess.run([runs.PROGRAM, folder, "run", *words], input=given, stdout=subprocess.PIPE)
+        took, spent = time.monotonic() - begun, sum(runs.processor()) - before
         if ran.returncode != 0:
             fail(f"a run with {' '.join(words)} ended with {ran.returncode}")
         replies = [json.loads(reply) for reply in ran.stdout.split(b"\n")[:-1]]
         if sorted(reply["n"] for reply in replies) != list(range(1, len(lines) + 1)):
             fail(f"a run with {' '.join(words)} left a line without its one reply")
-        shown = subprocess.run([program, folder, "show"], stdout=subprocess.PIPE, check=True).stdout.split(b"\n")[:-1]
+        shown = subprocess.run([runs.PROGRAM, folder, "show"], stdout=subprocess.PIPE, check=True).stdout.split(b"\n")[:-1]
         states = [json.loads(line) for line in shown]
         deposited = sum(1000 for reply in replies if reply["n"] <= 64 and "reply" in reply)
         if sum(state["fields"]["balance"] for state in states if "grain" in state) != deposited:
             fail(f"a run with {' '.join(words)} made or lost money")
-        spent = after.ru_utime + after.ru_stime - before.ru_utime - before.ru_stime
         return took, spent, sum("aborted" in reply for reply in replies)
 
 for name, place in (("real", real), ("free", free)):

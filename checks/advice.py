@@ -16,7 +16,7 @@ import subprocess
 import tempfile
 
 import shim
-from harness import BANK, PROGRAM, TOP, Ended, Rows, ask, deposit, reply, run
+from harness import BANK, PROGRAM, TOP, Ended, Rows, ask, can_trace, deposit, line, objects, reply, run, silo_folder
 
 rows = Rows("advice")
 
@@ -27,12 +27,9 @@ type desk { method sell(n) suppress plain { let b = call account/1.add(n); retur
 """
 
 
-def line(call, *args):
-    return json.dumps({"args": list(args), "call": call}).encode() + b"\n"
-
-
 def lines(ended):
-    return [json.loads(text) for text in ended.output.splitlines()]
+    """The lines that a run put out, read as JSON."""
+    return objects(ended.output)
 
 
 def started(*words, given=b"", **how):
@@ -53,18 +50,12 @@ def small_files(limit):
 
 with tempfile.TemporaryDirectory() as room:
 
-    def folder(name, program, *commands):
-        path = os.path.join(room, name)
-        os.mkdir(path)
-        assert run(path, "init", given=program).number == 0
-        for given in commands:
-            assert run(path, "run", given=given).number == 0
-        return path
+    def folder(name, *commands):
+        return silo_folder(room, name, *commands)
 
     def failing(kind, at, *words, given=b""):
         """A run in which this call on the log fails, of those of this kind."""
-        settings = shim.words(library, kinds=kind, names="manager-*", at=at, fail=errno.EIO)
-        return started(*words, given=given, env={**os.environ, **settings})
+        return run(*words, given=given, shim=shim.words(library, kinds=kind, names="manager-*", at=at, fail=errno.EIO))
 
     # The fault `aborted` is the abort of a transaction that the line's began, and may be sent again.
     # By a lock: the shop's child meets the lock of an older line.
@@ -81,7 +72,8 @@ with tempfile.TemporaryDirectory() as room:
     os.mkdir(os.path.join(voted, "grain-0-0-1.otx"))
     rows.row("a child whose file fails", run(voted, "run", given=line("shop/1.sell", 1)), Ended(0, b'{"fault":"aborted","n":1,"unit":1}\n', b""))
     rows.row("its history", run(voted, "history").output, b'{"args":[1],"call":"shop/1.sell","fault":"aborted","n":1,"session":1,"unit":1}\n')
-    rows.row("the same file asked for by a line", run(voted, "run", given=line("account/1.add", 1)), Ended(0, b'{"aborted":"vote","grain":"account/1","n":1,"unit":2}\n', b""))
+    rows.row("the same file asked for by a line", run(voted, "run", given=line("account/1.add", 1)),
+             Ended(0, b'{"aborted":"vote","grain":"account/1","n":1,"unit":2}\n', b""))
     os.rmdir(os.path.join(voted, "grain-0-0-1.otx"))
     rows.row("sent again, the file mended", run(voted, "run", given=line("shop/1.sell", 1)).output, b'{"n":1,"reply":1,"unit":2}\n')
 
@@ -99,7 +91,8 @@ with tempfile.TemporaryDirectory() as room:
     rows.row("what its unit began", [found["call"] for found in lines(run(stays, "history")) if found.get("parent") == 1], ["account/1.add"])
     os.rmdir(os.path.join(stays, "grain-0-0-2.otx"))
     run(stays, "run", given=line("shop/1.both", 5))
-    rows.row("sent again all the same", lines(run(stays, "show"))[:2], [{"fields": {"balance": 10}, "grain": "account/1"}, {"fields": {"balance": 5}, "grain": "account/2"}])
+    rows.row("sent again all the same", lines(run(stays, "show"))[:2], [
+        {"fields": {"balance": 10}, "grain": "account/1"}, {"fields": {"balance": 5}, "grain": "account/2"}])
 
     # `init` of nothing makes a silo without types, for good.
     empty = folder("empty", b"")
@@ -195,7 +188,7 @@ with tempfile.TemporaryDirectory() as room:
     os.truncate(os.path.join(cut, "manager-0.otx"), 80)
     rows.row("the opening of a file that is cut", run(cut, "audit"), Ended(9, b"", b"silo: damaged manager-0.otx at 16\n"))
 
-    traces = shutil.which("strace") and subprocess.run(["strace", "true"], capture_output=True).returncode == 0
+    traces = can_trace()
     if not traces:
         print("advice: nothing can be traced here, so calls of the system aren't counted")
     # What `init` syncs of folders is the one that it fills: that its name lasts in the one above it is what `sync` is for.
@@ -223,18 +216,20 @@ with tempfile.TemporaryDirectory() as room:
     rows.row("bytes of a version", grows(sizes, "grain-0-0-1.otx", line("account/1.add", 1)), head + number)
     rows.row("bytes of a text", grows(sizes, log, line("shop/1.word", "four")), batch + own + 2 * (4 + text))
     rows.row("bytes of a fault", grows(sizes, log, line("shop/1.no")), batch + own + 2 + said)
-    rows.row("bytes of a child's record and its parent's", grows(sizes, log, line("shop/1.sell", 1)), 2 * batch + child + 2 * number + grain + own + 2 * number + number + 1)
+    rows.row("bytes of a child's record and its parent's", grows(sizes, log, line("shop/1.sell", 1)),
+             2 * batch + child + 2 * number + grain + own + 2 * number + number + 1)
 
     # The calls of the system at opening.
     if traces:
-        many = folder("many", BANK, *[deposit(1) for _ in range(20)])
-        counts = os.path.join(room, "counts")
-        started_by = subprocess.run(["strace", "-f", "-c", "-o", counts, PROGRAM, many, "run"], input=b"", capture_output=True)
-        assert started_by.returncode == 0, started_by
-        asked = {words[-1]: int(words[3]) for words in map(str.split, open(counts)) if len(words) in (5, 6) and words[3].isdigit()}
-        few = folder("few", BANK)
-        subprocess.run(["strace", "-f", "-c", "-o", counts, PROGRAM, few, "run"], input=b"", capture_output=True)
-        none = {words[-1]: int(words[3]) for words in map(str.split, open(counts)) if len(words) in (5, 6) and words[3].isdigit()}
+
+        def calls_of_opening(path):
+            """How often an opening makes each call of the system."""
+            counts = os.path.join(room, "counts")
+            subprocess.run(["strace", "-f", "-c", "-o", counts, PROGRAM, path, "run"], input=b"", capture_output=True, check=True)
+            with open(counts) as file:
+                return {words[-1]: int(words[3]) for words in map(str.split, file) if len(words) in (5, 6) and words[3].isdigit()}
+
+        asked, none = calls_of_opening(folder("many", BANK, *[deposit(1) for _ in range(20)])), calls_of_opening(folder("few", BANK))
         rows.row("reads more, for a log of 20 blocks and one grain's versions", asked["pread64"] - none["pread64"], 1)
         lengths = [sum(counted.get(name, 0) for name in ("statx", "fstat", "newfstatat")) for counted in (asked, none)]
         rows.row("looks more, of the log behind the program file and of the grain's file", lengths[0] - lengths[1], 2)

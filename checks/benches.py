@@ -3,7 +3,10 @@ import os
 import subprocess
 import tempfile
 
-from harness import PROGRAM, TOP, Rows
+from harness import PROGRAM, TOP, Rows, can_trace
+
+# They end with 1 where a figure isn't what is wanted, which hangs on what else the machine does.
+MAY_MISS = ("fairness.sh",)
 
 rows = Rows("benches")
 
@@ -22,9 +25,11 @@ with tempfile.TemporaryDirectory() as room:
         ("kill.sh", "1", "50", "8"),
         ("fairness.sh", "1", room),
         ("check.sh", "100"),
+        *([("calls.sh", "100", "64")] if can_trace() else []),
     ]:
-        done = subprocess.run([os.path.join(TOP, "bench", name), *words], env={**os.environ, "SILO": PROGRAM}, stdin=subprocess.DEVNULL, capture_output=True, timeout=1200)
-        printed = done.stdout.decode()
-        rows.row(" ".join([name, *words]), (done.stderr.decode(), any(map(str.isdigit, printed)), "Traceback" in printed), ("", True, False))
+        bench, env = os.path.join(TOP, "bench", name), {**os.environ, "SILO": PROGRAM}
+        done = subprocess.run([bench, *words], env=env, stdin=subprocess.DEVNULL, capture_output=True, timeout=1200)
+        ended = 0 if done.returncode == 1 and name in MAY_MISS else done.returncode
+        rows.row(" ".join([name, *words]), (ended, done.stderr.decode(), any(map(str.isdigit, done.stdout.decode()))), (0, "", True))
 
 rows.end()

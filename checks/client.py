@@ -46,7 +46,8 @@ with tempfile.TemporaryDirectory() as room:
     asked = os.path.join(room, "asked")
     doubt = stand_in(room, "doubt", f'echo "$2" >>"{asked}"', """echo '{"in_doubt":true,"n":1,"unit":4}'; echo "silo: disk fault in manager-0.otx" >&2; exit 6""")
     number, lines = client(doubt, folder)
-    rows.row("a batch in doubt", (number, lines[0]), (1, f'{calls[0]}: InDoubt: unit 4 is in the log or isn\'t; after "After a failed sync" in docs/OPERATIONS.md, look for line 1 in the history behind 4 records'))
+    said = "unit 4 is in the log or isn't; after \"After a failed sync\" in docs/OPERATIONS.md, look for line 1 in the history behind 4 records"
+    rows.row("a batch in doubt", (number, lines[0]), (1, f"{calls[0]}: InDoubt: {said}"))
     rows.row("behind it", lines[1].startswith(f"{calls[1]}: Unanswered: silo ended with 6: silo: disk fault in manager-0.otx"), True)
     with open(asked) as file:
         rows.row("what was asked then", file.read(), "run\n")

@@ -5,20 +5,11 @@ import os
 import random
 import tempfile
 
-from harness import BANK, Rows, deposit, run, says, silent
+from harness import BANK, Rows, deposit, files, run, says, silent, silo_folder
 from plain_silos import line
 
 rows = Rows("commits")
 LARGEST = (1 << 64) - 1
-
-
-def contents(path):
-    """The files of a folder, with their bytes."""
-    found = {}
-    for name in os.listdir(path):
-        with open(os.path.join(path, name), "rb") as file:
-            found[name] = file.read()
-    return found
 
 
 with tempfile.TemporaryDirectory() as room:
@@ -38,7 +29,8 @@ with tempfile.TemporaryDirectory() as room:
         rows.row(f"check {starts} {seed}", check(starts, seed), silent(line(starts, seed)))
 
     # 2: numbers out of their bounds or spelled otherwise, one missing, one too many, and options.
-    for words in (["10001", "7"], ["7"], [], ["1", "2", "3"], ["01", "7"], ["+1", "7"], ["1", "-7"], ["1", str(LARGEST + 1)], ["1", ""], ["1", "7", "--width", "2"], ["--width=2", "1", "7"], ["1", "7", "--workers=2"], ["--", "1", "7"]):
+    for words in (["10001", "7"], ["7"], [], ["1", "2", "3"], ["01", "7"], ["+1", "7"], ["1", "-7"], ["1", str(LARGEST + 1)], ["1", ""],
+                  ["1", "7", "--width", "2"], ["--width=2", "1", "7"], ["1", "7", "--workers=2"], ["--", "1", "7"]):
         rows.row(f"words {words}", run(empty, "check", *words), says(2, b"bad use"))
 
     # 3: no memory. Nothing is written. A check of 10,000 starts keeps 200,000 packets.
@@ -60,13 +52,10 @@ with tempfile.TemporaryDirectory() as room:
     rows.row("a folder that isn't there", run(missing, "check", "1", "0"), silent(line(1, 0)))
     rows.row("a folder that isn't there: afterwards", os.path.exists(missing), False)
     rows.row("a file", run(__file__, "check", "1", "0"), silent(line(1, 0)))
-    shop = os.path.join(room, "shop")
-    os.mkdir(shop)
-    run(shop, "init", given=BANK)
-    run(shop, "run", given=deposit(5))
-    before = contents(shop)
+    shop = silo_folder(room, "shop", BANK, deposit(5))
+    before = files(shop)
     rows.row("a silo", run(shop, "check", "1", "0"), silent(line(1, 0)))
-    rows.row("a silo: afterwards", contents(shop), before)
+    rows.row("a silo: afterwards", files(shop), before)
 
     # No input is read: all of it is left, and one that can't be read does no harm.
     with tempfile.TemporaryFile() as given:

@@ -2,14 +2,11 @@
 import os
 import random
 import shutil
-import subprocess
-import sys
 import tempfile
 import time
 
-from harness import BANK, PROGRAM, TOP, Rows, ask, deposit, held, reply, run, says, silent
+from harness import BANK, Rows, ask, deposit, held, kill_after, line, little, read_states, reply, run, says, silent, silo_folder
 
-READER = os.path.join(TOP, "examples", "reader", "read.py")
 KILLS = 100
 GRAINS = 200
 
@@ -18,9 +15,7 @@ rows = Rows("compact")
 
 def states(folder):
     """What `show` says, and what a reader of the bytes says of states and the next unit."""
-    shown = run(folder, "show")
-    read = subprocess.run([sys.executable, READER, folder], capture_output=True)
-    return shown, [line for line in read.stdout.splitlines() if b'"grain"' in line or b'"next_unit"' in line], read.returncode
+    return run(folder, "show"), read_states(folder)
 
 
 def first_bytes(folder):
@@ -36,16 +31,12 @@ def live_of(heads):
 
 with tempfile.TemporaryDirectory() as room:
     # One deposit: the checkpoint's bytes, and the version's.
-    one = os.path.join(room, "one")
-    os.mkdir(one)
-    run(one, "init", given=BANK)
-    run(one, "run", given=deposit(5))
+    one = silo_folder(room, "one", BANK, deposit(5))
     before = states(one)
     rows.row("compact", run(one, "compact"), silent())
-    number = lambda value, size: value.to_bytes(size, "little")
-    named = number(0, 2) + number(1, 4) + number(0, 8) + number(19, 4)
-    piece = b"\0" + number(1, 8) + number(2, 8) + number(1, 8) + number(1, 4) + named
-    rows.row("its manager file", held(one, "manager-1.otx"), b"\1OTXLOG02" + number(1, 4) + b"\1\0" + b"\1" + number(47, 4) + piece + b"\0")
+    named = little(0, 2) + little(1, 4) + little(0, 8) + little(19, 4)
+    piece = b"\0" + little(1, 8) + little(2, 8) + little(1, 8) + little(1, 4) + named
+    rows.row("its manager file", held(one, "manager-1.otx"), b"\1OTXLOG02" + little(1, 4) + b"\1\0" + b"\1" + little(47, 4) + piece + b"\0")
     rows.row("its program", held(one, "program-1.otx"), held(one, "program-0.otx"))
     rows.row("its version", held(one, "grain-1-0-1.otx"), held(one, "grain-0-0-1.otx"))
     rows.row("what it stands for", states(one), before)
@@ -65,21 +56,17 @@ with tempfile.TemporaryDirectory() as room:
     rows.row("the generations", [held(one, f"manager-{slot}.otx")[9] for slot in (0, 1)], [4, 3])
 
     # Nothing was written yet, and a grain with its initial values was.
-    none = os.path.join(room, "none")
-    os.mkdir(none)
-    run(none, "init", given=BANK)
+    none = silo_folder(room, "none", BANK)
     rows.row("compact of a new silo", run(none, "compact"), silent())
     rows.row("its length", len(held(none, "manager-1.otx")), 15 + 5 + 29 + 1)
     rows.row("a new silo's states", run(none, "show"), silent(b'{"count":0}\n'))
-    run(none, "run", given=deposit(5) + b'{"args":[5],"call":"account/1.withdraw"}\n')
+    run(none, "run", given=deposit(5) + line("account/1.withdraw", 5))
     run(none, "compact")
     rows.row("a grain with its initial values", run(none, "show"), silent(b'{"fields":{"balance":0},"grain":"account/1"}\n{"count":2}\n'))
 
     # A kill at random moments: each leaves the states and the count, with the old generation or the new one. Each tenth time the log is
     # played again, and a run goes on behind it.
-    kept = os.path.join(room, "kept")
-    os.mkdir(kept)
-    run(kept, "init", given=BANK)
+    kept = silo_folder(room, "kept", BANK)
     run(kept, "run", "--width", "64", given=b"".join(deposit(7, account) for account in range(1, GRAINS + 1)))
     wanted = run(kept, "show").output
     run(kept, "compact")
@@ -91,10 +78,7 @@ with tempfile.TemporaryDirectory() as room:
     for turn in range(KILLS):
         before = first_bytes(kept)
         after = draws.uniform(0, longest)
-        process = subprocess.Popen([PROGRAM, kept, "compact"], stdout=subprocess.DEVNULL, stderr=subprocess.DEVNULL)
-        time.sleep(after)
-        process.kill()
-        process.wait()
+        kill_after(after, kept, "compact")
         left = first_bytes(kept)
         # It had written, and not yet turned: so many at least, since one that goes on where another was killed may write the same.
         amid += left != before and live_of(left) == live_of(before)

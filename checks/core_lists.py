@@ -11,9 +11,8 @@ import os
 import sys
 
 from core_rules import ABORTED, READ, UPDATE, UNIT_LIMIT, Effect, NoNumber, Plain, state_text
+from harness import TOP, write_or_compare
 
-TOP = os.path.dirname(os.path.dirname(os.path.abspath(__file__)))
-FOLDER = os.path.join(TOP, "crates", "core_tests")
 LISTS, EVENTS = 40, 100
 # So many lists more are over memory for one or two grains, and each worked list whose title begins so is over memory for two.
 LIMITED = 20
@@ -629,7 +628,7 @@ def texts_of(script):
 
 
 def main(words):
-    if words[:1] == ["--list"]:
+    if words[:1] == ["--list"] and len(words) in (4, 5):
         seed, count, folder = int(words[1]), int(words[2]), words[3]
         script = Script(tells=words[4:] == ["tell"])
         random_list(script, seed, first_unit(seed), count)
@@ -637,18 +636,7 @@ def main(words):
             with open(os.path.join(folder, name), "w", encoding="utf-8") as file:
                 file.write(text)
         return 0
-    wrong = 0
-    for name, text in zip(("stdin", "stdout"), texts_of(all_lists())):
-        path = os.path.join(FOLDER, name)
-        if words == ["--check"]:
-            with open(path, encoding="utf-8") as file:
-                if file.read() != text:
-                    print(f"core_lists: {path} isn't what this script makes", file=sys.stderr)
-                    wrong = 1
-        else:
-            with open(path, "w", encoding="utf-8") as file:
-                file.write(text)
-    return wrong
+    return write_or_compare("core_tests", texts_of(all_lists()), words)
 
 
 if __name__ == "__main__":

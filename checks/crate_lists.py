@@ -11,7 +11,8 @@ import os
 import re
 import sys
 
-TOP = os.path.dirname(os.path.dirname(os.path.abspath(__file__)))
+from harness import TOP
+
 LIST = f"{TOP}/crates.txt"
 
 
@@ -98,11 +99,13 @@ def made_anew(text):
     return "\n".join(lines)
 
 
-def main():
+def main(words):
+    if words not in ([], ["--check"], ["--write"]):
+        sys.exit(__doc__)
     with open(LIST, encoding="utf-8") as file:
         text = file.read()
     made = made_anew(text)
-    if sys.argv[1:] == ["--write"]:
+    if words == ["--write"]:
         with open(LIST, "w", encoding="utf-8") as file:
             file.write(made)
         return 0
@@ -114,4 +117,4 @@ def main():
 
 
 if __name__ == "__main__":
-    sys.exit(main())
+    sys.exit(main(sys.argv[1:]))

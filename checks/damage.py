@@ -11,7 +11,8 @@ import signal
 import sys
 import tempfile
 
-from harness import FIRST_PROGRAM, PROGRAM, TOP, Ended, Rows, as_before, deposit, run
+import harness
+from harness import FIRST_PROGRAM, MEMORY, PROGRAM, TOP, Ended, Rows, as_before, deposit, line, run
 
 sys.path.insert(0, os.path.join(TOP, "examples", "reader"))
 sys.dont_write_bytecode = True
@@ -52,10 +53,9 @@ MOST_SECONDS = 20
 
 # The last two write the folder anew.
 COMMANDS = ("run", "show", "history", "audit", "migrate", "compact")
+STREAMS = ("input", "output", "errors")
 Process = collections.namedtuple("Process", "number output errors memory")
 Refusal = collections.namedtuple("Refusal", "number errors")
-
-room = tempfile.mkdtemp(dir="/dev/shm" if os.access("/dev/shm", os.W_OK) else None)
 
 
 def compact_json(value):
@@ -65,10 +65,10 @@ def compact_json(value):
 class Place:
     """A folder that one worker lays out again and again, and what a process there wrote."""
 
-    def __init__(self):
+    def __init__(self, room):
         self.top = tempfile.mkdtemp(dir=room)
         self.folder, self.texts = os.path.join(self.top, "folder"), {}
-        self.streams = [os.path.join(self.top, name) for name in ("input", "output", "errors")]
+        self.streams = [os.path.join(self.top, name) for name in STREAMS]
 
     def carry(self, folder, command, given=b""):
         with open(self.streams[0], "wb") as file:
@@ -80,18 +80,15 @@ class Place:
         signal.alarm(MOST_SECONDS)
         _, ended, taken = os.wait4(process, 0)
         signal.alarm(0)
-        output, errors = (open(name, "rb").read() for name in self.streams[1:])
+        output, errors = (harness.held(self.top, name) for name in STREAMS[1:])
         return Process(os.waitstatus_to_exitcode(ended), output, errors, taken.ru_maxrss)
 
-    def lay(self, files):
+    def lay(self, laid):
         shutil.rmtree(self.folder, ignore_errors=True)
         os.mkdir(self.folder)
-        for name, held in files.items():
+        for name, content in laid.items():
             with open(os.path.join(self.folder, name), "wb") as file:
-                file.write(held)
-
-    def held(self):
-        return files_in(self.folder)
+                file.write(content)
 
     def fault_of(self, text):
         """Where a text is no program, none where it is one."""
@@ -201,7 +198,7 @@ def looked_at(place, files):
         elif found[:3] != (0, wanted_output(command, wanted, count), b""):
             wrong.append(f"{command}: {found}, not {wanted_output(command, wanted, count)}")
     if isinstance(wanted, Refusal):
-        if place.held() != files:
+        if harness.files(place.folder) != files:
             wrong.append("a file was changed")
     elif not wrong and not old:
         again = place.carry(place.folder, "show")
@@ -258,7 +255,7 @@ def mutations(seed, name, files, count):
         yield f"{name}, mutation {turn}", made
 
 
-def silo_of(program, batches):
+def silo_of(room, program, batches):
     """The folder of a silo of a program with these batches."""
     folder = tempfile.mkdtemp(dir=room)
     run(folder, "init", given=program.encode())
@@ -267,9 +264,9 @@ def silo_of(program, batches):
     return folder
 
 
-def begin():
+def begin(room):
     global place
-    place = Place()
+    place = Place(room)
 
 
 def looked_at_case(case):
@@ -280,10 +277,10 @@ def looked_at_case(case):
         return name, [repr(error)], "none"
 
 
-def table(rows):
+def table(rows, room):
     """The rows of single changes to the first deposit's manager file, and programs that are none."""
-    folder, one = silo_of(FIRST_PROGRAM, [deposit(5)]), Place()
-    files = files_in(folder)
+    folder, one = silo_of(room, FIRST_PROGRAM, [deposit(5)]), Place(room)
+    files = harness.files(folder)
     manager = files["manager-0.otx"]
 
     def row(what, held, number, file=None, at=None, command="run", output=b""):
@@ -309,47 +306,44 @@ def table(rows):
     return folder
 
 
-def files_in(folder):
-    return {name: open(os.path.join(folder, name), "rb").read() for name in sorted(os.listdir(folder))}
-
-
-def cases(folder):
-    files = files_in(folder)
+def cases(room, folder):
+    """Each folder that is looked at: what it is, and its files."""
+    files = harness.files(folder)
     yield from each_change(files, files)
     run(folder, "compact")
-    yield from each_change(files_in(folder), ["manager-1.otx"])
-    batches = [b"".join(json.dumps({"args": arguments, "call": call}).encode() + b"\n" for call, arguments in batch) for batch in BATCHES]
-    folder = silo_of(TEXTS, batches)
-    yield "whole", files_in(folder)
-    yield from mutations(1, "two batches", files_in(folder), SEEDED)
+    yield from each_change(harness.files(folder), ["manager-1.otx"])
+    batches = [b"".join(line(call, *arguments) for call, arguments in batch) for batch in BATCHES]
+    folder = silo_of(room, TEXTS, batches)
+    yield "whole", harness.files(folder)
+    yield from mutations(1, "two batches", harness.files(folder), SEEDED)
     run(folder, "compact")
     run(folder, "run", given=batches[0])
-    yield "compacted", files_in(folder)
-    yield from mutations(2, "compacted", files_in(folder), SEEDED // 4)
+    yield "compacted", harness.files(folder)
+    yield from mutations(2, "compacted", harness.files(folder), SEEDED // 4)
     for text in UPGRADES:
         assert run(folder, "upgrade", given=text.encode()).number == 0
         run(folder, "run", given=batches[0])
-    yield "upgraded", files_in(folder)
-    yield from mutations(3, "upgraded", files_in(folder), SEEDED // 2)
+    yield "upgraded", harness.files(folder)
+    yield from mutations(3, "upgraded", harness.files(folder), SEEDED // 2)
     # The same silo in format 1.
     old = dict(files, **{"manager-0.otx": as_before(files["manager-0.otx"])})
     yield from each_change(old, ["manager-0.otx", "program-0.otx"])
-    files = files_in(folder)
+    files = harness.files(folder)
     live = f"manager-{live_slot(files)}.otx"
     old = {name: held for name, held in files.items() if name.startswith("manager") == (name == live)}
     old[live] = as_before(files[live])
     yield "an old silo", old
     yield from mutations(4, "an old silo", old, SEEDED // 2)
-    small = silo_of(SMALL, [deposit(5)])
+    small = silo_of(room, SMALL, [deposit(5)])
     assert run(small, "upgrade", given=SMALL.replace("0;", '0; field note = "new";').encode()).number == 0
-    yield from each_change(files_in(small), ["manager-0.otx"])
+    yield from each_change(harness.files(small), ["manager-0.otx"])
 
 
-def main():
+def main(room):
     rows = Rows("damage")
-    folder, counts = table(rows), collections.Counter()
-    with multiprocessing.Pool(len(os.sched_getaffinity(0)), begin) as pool:
-        for name, wrong, number in pool.imap_unordered(looked_at_case, cases(folder), 8):
+    folder, counts = table(rows, room), collections.Counter()
+    with multiprocessing.Pool(len(os.sched_getaffinity(0)), begin, (room,)) as pool:
+        for name, wrong, number in pool.imap_unordered(looked_at_case, cases(room, folder), 8):
             counts[number] += 1
             rows.row(name, wrong, [])
     print(f"damage: {sum(counts.values())} folders, {counts[0]} of them whole, {counts[9]} damaged")
@@ -357,7 +351,5 @@ def main():
 
 
 if __name__ == "__main__":
-    try:
-        main()
-    finally:
-        shutil.rmtree(room, ignore_errors=True)
+    with tempfile.TemporaryDirectory(dir=MEMORY) as memory:
+        main(memory)

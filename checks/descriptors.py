@@ -40,10 +40,10 @@ for files in (16, 40, None):
         run(folder, "init", given=BANK)
         lines = [deposit(1, account) for _ in range(3) for account in range(50)]
         for time in ("first", "second"):
-            ended = run(folder, "run", "--width", "1", given=b"".join(lines), files=files)
+            ended = run(folder, "run", "--width", "1", given=b"".join(lines), open_files=files)
             answered = [line for line in ended.output.splitlines() if "reply" in json.loads(line)]
             rows.row(f"a {time} run over 50 grains with {files} files", (ended.number, ended.errors, len(answered)), (0, b"", 150))
-        audit = run(folder, "audit", files=files)
+        audit = run(folder, "audit", open_files=files)
         told = json.loads(audit.output)
         rows.row(f"the log of {files} files", (audit.number, told["count"], told["first_bad"]), (0, 300, None))
 

@@ -53,21 +53,27 @@ def one_less(method):
     return call("edge", name("key"), method, infix("-", name("n"), plain(1)))
 
 
+SIXTEEN = "sixteen letters."
 ONE_MORE = ("return", infix("+", name("x"), plain(1)))
+LONGER = ("give", "s", infix("+", name("s"), plain(SIXTEEN)))
 ABOVE_ONE = infix(">", name("n"), plain(1))
 
-# The last type of each program: its methods take as many frames, units of their own, nested or not, grains or steps as they are told.
+# The last type of each program: its methods take as many frames, units of their own, nested or not, grains or steps, or as long a text, as
+# they are told.
 EDGE = Type("edge", {"seen": 0}, [
     Method("deep", ["n"], "createorjoin", "plain", [("if", ABOVE_ONE, [("let", "x", one_less("deep")), ONE_MORE], []), ("return", plain(1))]),
     Method("nest", ["n"], "create", "plain", [("if", ABOVE_ONE, [("attempt", "x", one_less("nest"), [ONE_MORE], [("return", name("x"))])], []), ("return", plain(1))]),
     Method("many", ["n"], "create", "plain", [*counting(name("n"), [("attempt", "x", call("edge", name("i"), "touch"), [], [])]), ("return", name("i"))]),
     Method("wide", ["n"], "create", "plain", [*counting(name("n"), [call("edge", name("i"), "look")]), ("return", name("i"))]),
     Method("spin", ["n"], "create", "plain", [*counting(name("n"), []), ("return", name("i"))]),
+    Method("grow", ["n"], "create", "plain", [("let", "s", plain(SIXTEEN)), *counting(name("n"), [LONGER]), ("return", name("s"))]),
     Method("touch", [], "create", "update", [("set", "seen", infix("+", name("seen"), plain(1))), ("return", name("seen"))]),
     Method("look", [], "createorjoin", "read", [("return", name("seen"))]),
 ])
 # About the most that each of them takes.
-EDGES = {"deep": (31, 34), "nest": (2, 34), "many": (60, 66), "wide": (62, 66), "spin": (4996, 5001)}
+EDGES = {"deep": (31, 34), "nest": (2, 34), "many": (60, 66), "wide": (62, 66), "spin": (4996, 5001), "grow": (253, 258)}
+# The faults behind them.
+LIMITS = {"depth", "units", "grains", "budget", "length"}
 
 
 class Writer:
@@ -167,7 +173,7 @@ def random_request(draw, program):
     roll = draw.random()
     if roll < 0.02:
         return "t0/0.nothing", []
-    if roll < 0.05:
+    if roll < 0.12:
         method = draw.choice(list(EDGES))
         return f"edge/0.{method}", [draw.randrange(*EDGES[method])]
     # Mostly of the types whose methods call others.
@@ -235,6 +241,8 @@ class Replay:
         """A reply is that of its record, or of a run outside transactions, or names why there is none."""
         kinds = [kind for kind in ("reply", "fault", "aborted", "bad") if kind in reply]
         self.told[kinds[0] if kinds else "none"] += 1
+        if reply.get("fault") in LIMITS:
+            self.told[f"fault {reply['fault']}"] += 1
         if kinds[:1] == ["bad"]:
             return self.expect("unit" not in reply and request[0] == "t0/0.nothing", f"{reply} to {request}")
         if kinds[:1] == ["aborted"]:
@@ -295,7 +303,8 @@ def main(rounds=ROUNDS, seed=SEED):
     for at in range(int(rounds)):
         told += check_round(rows, f"round {at} of seed {seed}", random.Random(f"{seed} {at}"))
     print("differential:", ", ".join(f"{count} {kind}" for kind, count in sorted(told.items())))
-    rows.row("each kind of reply came", {"reply", "fault", "aborted", "bad", "children"} <= set(told), True)
+    rows.row("each kind of reply came", {"reply", "fault", "aborted", "bad", "children"} - set(told), set())
+    rows.row("each limit was reached", {f"fault {limit}" for limit in LIMITS} - set(told), set())
     rows.end()
 
 

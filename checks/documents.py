@@ -16,12 +16,13 @@ import shutil
 import subprocess
 import tempfile
 
-from harness import PROGRAM, TOP, Rows
+from harness import PROGRAM, TOP, Rows, stand_in
 
 rows = Rows("documents")
 MOST_WORDS = 1500
 FIRST = ["README.md", "docs/TUTORIAL.md", "docs/LANGUAGE.md", "docs/PATTERNS.md", "docs/OPERATIONS.md"]
-OTHERS = sorted(os.path.relpath(path, TOP) for path in glob.glob(os.path.join(TOP, "docs", "*.md")) + glob.glob(os.path.join(TOP, "examples", "*", "README.md")))
+FOUND = glob.glob(os.path.join(TOP, "docs", "*.md")) + glob.glob(os.path.join(TOP, "examples", "*", "README.md"))
+OTHERS = sorted(os.path.relpath(path, TOP) for path in FOUND)
 # In the order in which a reader meets them.
 DOCUMENTS = FIRST + [name for name in OTHERS if name not in FIRST]
 FOLDERS = ("docs", "examples", "bench", "checks", "crates", "tools", ".ci")
@@ -58,9 +59,7 @@ def commands(lines):
 
 def furnish(room):
     """Gives a folder what the top of the repository has for its documents."""
-    with open(os.path.join(room, "silo"), "w") as file:
-        file.write(f'#!/bin/sh\nexec "{PROGRAM}" "$@"\n')
-    os.chmod(os.path.join(room, "silo"), 0o755)
+    stand_in(room, "silo", f'exec "{PROGRAM}" "$@"')
     for folder in ("examples", "tools"):
         if os.path.isdir(os.path.join(TOP, folder)):
             shutil.copytree(os.path.join(TOP, folder), os.path.join(room, folder))

@@ -64,6 +64,8 @@ def sources(crate):
 
 
 def main(words):
+    if words not in ([], ["--check"], ["--write"]):
+        sys.exit(__doc__)
     rows, text, found = Rows("edits"), read(DOCUMENT), edits()
     told = listed(text)
     wanted = [(len({crate for crate, _, _ in told}), len(told)), (sum(map(len, found.values())), len(found))]

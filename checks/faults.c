@@ -181,7 +181,7 @@ static int opened(int file, const char *path) {
 #define FAIL_OR(kind, name) if (deed_of(kind, name) == FAILS) return -1
 #define MODE_OF(flags) \
   mode_t mode = 0; \
-  if ((flags) & (O_CREAT | O_TMPFILE)) { va_list more; va_start(more, flags); mode = va_arg(more, mode_t); va_end(more); }
+  if ((flags) & O_CREAT || ((flags) & O_TMPFILE) == O_TMPFILE) { va_list more; va_start(more, flags); mode = va_arg(more, mode_t); va_end(more); }
 
 int open(const char *path, int flags, ...) { MODE_OF(flags) FAIL_OR("open", last_part(path)); return opened(REAL(open)(path, flags, mode), path); }
 int open64(const char *path, int flags, ...) { MODE_OF(flags) FAIL_OR("open", last_part(path)); return opened(REAL(open64)(path, flags, mode), path); }

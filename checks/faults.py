@@ -15,9 +15,8 @@ import tempfile
 
 import kept
 import shim
-from harness import Rows, files, make_old, run
+from harness import MEMORY, Rows, files, line, make_old, run
 
-MEMORY = "/dev/shm" if os.path.isdir("/dev/shm") else None
 # Of so many calls one is tried, in a check that isn't told to try all of them, beside the first of each kind on each kind of file.
 STRIDE = 4
 
@@ -38,19 +37,19 @@ ASKED = 50
 rows = Rows("faults")
 
 LINES = [
-    *(kept.line("teller/0.transfer", at % 4, (at * 3 + 1) % 4, 1 + at) for at in range(8)),
-    kept.line("teller/0.transfer", 1, 2, 100_000),
+    *(line("teller/0.transfer", at % 4, (at * 3 + 1) % 4, 1 + at) for at in range(8)),
+    line("teller/0.transfer", 1, 2, 100_000),
     b"no request\n",
-    kept.line("account/2.read"),
-    kept.line("account/3.read"),
+    line("account/2.read"),
+    line("account/3.read"),
 ]
 # Lines whose transactions begin others.
 NESTED = [
-    kept.line("mover/0.move", 1, 2, 5),
-    kept.line("mover/1.count", 2, 3, 6),
-    kept.line("mover/0.spoil", 3, 0, 7),
-    kept.line("teller/0.transfer", 0, 1, 8),
-    kept.line("mover/1.count", 0, 3, 9),
+    line("mover/0.move", 1, 2, 5),
+    line("mover/1.count", 2, 3, 6),
+    line("mover/0.spoil", 3, 0, 7),
+    line("teller/0.transfer", 0, 1, 8),
+    line("mover/1.count", 0, 3, 9),
 ]
 
 
@@ -86,7 +85,6 @@ class Case:
         done = [call for call in calls if call.done != "-"]
         shutil.rmtree(folder)
         return f"{self.name}, {way} at {at}, {done[0].kind + ' ' + done[0].name if done else 'no call'}", wrong
-
 
     def untold(self, ended, failed):
         """What is wrong where nothing tells that these calls failed."""
@@ -124,68 +122,65 @@ class Report(Case):
         return wrong
 
 
-class Compact(Case):
-    """`compact`, which leaves the states, and a log that replays and goes on."""
+def run_behind(folder):
+    """What is wrong with a run over what a command left."""
+    ended = run(folder, "run", given=line("account/0.deposit", 5))
+    return [] if ended.number == 0 and b'"reply"' in ended.output else [f"a run behind it ended so: {ended}"]
+
+
+class Rewrite(Case):
+    """A command that writes a silo's files and prints nothing, and that a run may follow, whatever failed. `left` is what is wrong with what
+    it left."""
 
     def untold(self, ended, failed):
         # Once all is written it does without memory.
         return [] if failed == {shim.NO_FILE} else super().untold(ended, failed)
 
     def wrong(self, folder, ended, failed):
-        wrong = kept.wrong_number(ended, failed)
-        if ended.output:
-            wrong.append(f"it printed {ended.output}")
-        audit, shown = run(folder, "audit"), run(folder, "show")
+        printed = [f"it printed {ended.output}"] if ended.output else []
+        return kept.wrong_number(ended, failed) + printed + self.left(folder, ended) + run_behind(folder)
+
+
+class Compact(Rewrite):
+    """`compact`, which leaves the states, and a log that replays and goes on."""
+
+    def left(self, folder, ended):
+        wrong, audit, shown = [], run(folder, "audit"), run(folder, "show")
         if audit.output != REPORTS["audit"] or shown.output != REPORTS["show"]:
             wrong.append(f"behind it an audit and a show ended so: {audit}, {shown}")
         if ended.number != 0 and kept.history(folder)[0] not in (BEFORE, []):
             wrong.append("a part of the records is gone")
-        used = run(folder, "run", given=kept.line("account/0.deposit", 5))
-        if used.number != 0 or b'"reply"' not in used.output:
-            wrong.append(f"a run behind it ended so: {used}")
         return wrong
 
 
-class Migrate(Compact):
+class Migrate(Rewrite):
     """`migrate`, which leaves the old silo or the new one, with the same log, and goes on where it is called once more."""
 
-    def wrong(self, folder, ended, failed):
-        wrong, again = kept.wrong_number(ended, failed), run(folder, "migrate")
+    def left(self, folder, ended):
+        wrong, again = [], run(folder, "migrate")
         # Behind a failed call of the last sync it may be a new silo all the same.
-        if again.number not in ((15,) if ended.number == 0 else (0, 15)) or ended.output:
+        if again.number not in ((15,) if ended.number == 0 else (0, 15)):
             wrong.append(f"a second one ended so: {again}, behind {ended}")
         told = {command: run(folder, command).output for command in MIGRATED}
         if told != MIGRATED:
             wrong.append(f"behind it reports say so: {told}")
-        used = run(folder, "run", given=kept.line("account/0.deposit", 5))
-        if used.number != 0 or b'"reply"' not in used.output:
-            wrong.append(f"a run behind it ended so: {used}")
         return wrong
 
 
-class Upgrade(Case):
+class Upgrade(Rewrite):
     """`upgrade`, which leaves the log as it was or with the upgrade, and goes on."""
 
-    def untold(self, ended, failed):
-        # Once all is written it does without memory.
-        return [] if failed == {shim.NO_FILE} else super().untold(ended, failed)
-
-    def wrong(self, folder, ended, failed):
-        wrong = kept.wrong_number(ended, failed)
-        if ended.output:
-            wrong.append(f"it printed {ended.output}")
-        told, shown, audit = kept.history(folder)[0], run(folder, "show"), run(folder, "audit")
+    def left(self, folder, ended):
+        wrong, told, shown, audit = [], kept.history(folder)[0], run(folder, "show"), run(folder, "audit")
         more = told[len(BEFORE):]
-        if told[:len(BEFORE)] != BEFORE or more not in ([], [b'{"session":%d,"upgrade":%d}' % (SESSION + 1, len(self.given))]) or (ended.number == 0 and not more):
+        entry = b'{"session":%d,"upgrade":%d}' % (SESSION + 1, len(self.given))
+        if told[:len(BEFORE)] != BEFORE or more not in ([], [entry]) or (ended.number == 0 and not more):
             wrong.append(f"with {ended.number} it left {told}")
         if b'"first_bad":null' not in audit.output or (b'"limit"' in shown.output) != bool(more):
             wrong.append(f"behind it an audit and a show ended so: {audit}, {shown}")
         # What ended before the block was written left nothing.
         if more and ended.number in (3, 4):
             wrong.append(f"with {ended.number} it left the upgrade")
-        used = run(folder, "run", given=kept.line("account/0.deposit", 5))
-        if used.number != 0 or b'"reply"' not in used.output:
-            wrong.append(f"a run behind it ended so: {used}")
         return wrong
 
 
@@ -200,7 +195,7 @@ class Making(Case):
             wrong.append(f"a second init ended with {again} behind {ended.number}")
         if ended.number == 4 and again != 0:
             wrong.append("something was made without an input")
-        used = run(folder, "run", given=kept.line("account/0.deposit", 5))
+        used = run(folder, "run", given=line("account/0.deposit", 5))
         if used != (0, b'{"n":1,"reply":5,"unit":1}\n', b""):
             wrong.append(f"a run in what was made ended so: {used}")
         return wrong
@@ -210,6 +205,7 @@ class Load(Case):
     """`load`: where it made a silo its log replays, and what it summed up is in it."""
 
     def untold(self, ended, failed):
+        # A unit that was aborted tells of it.
         return super().untold(ended, failed) if ended.number != 0 or json.loads(ended.output)["aborted"] == 0 else []
 
     def wrong(self, folder, ended, failed):
@@ -255,7 +251,8 @@ def tries(case, stride):
             count = sum(call.kind == "memory" for call in asked)
             yield from ((case, way, at) for at in range(1, count + 1, 1 if stride == 1 else count // ASKED + 1))
             continue
-        chosen = [(call.kind, call.name.split("-")[0]) for call in calls if call.kind in settings["kinds"].split(",") and call.name not in ("2", shim.NO_FILE)]
+        kinds = settings["kinds"].split(",")
+        chosen = [(call.kind, call.name.split("-")[0]) for call in calls if call.kind in kinds and call.name not in ("2", shim.NO_FILE)]
         firsts = {chosen.index(call) + 1 for call in chosen}
         yield from ((case, way, at) for at in sorted(firsts | set(range(1 + turn % stride, len(chosen) + 1, stride))))
 

@@ -14,7 +14,7 @@ import subprocess
 import tempfile
 
 import shim
-from harness import BANK, PROGRAM, Ended, Rows, ask, deposit, files, run, says, silent, start
+from harness import BANK, PROGRAM, Ended, Rows, ask, deposit, files, objects, run, says, silent, silo_folder, start
 
 rows = Rows("folders")
 
@@ -26,11 +26,6 @@ ALL_IS_WELL = b'"first_bad":null}\n'
 SECONDS = 5
 # The folder itself and its files, as the library names them.
 FILES = ".,manager-*,program-*,grain-*"
-
-
-def objects(lines):
-    """The JSON objects of whole lines."""
-    return [json.loads(line) for line in lines.split(b"\n")[:-1]]
 
 
 def history(folder):
@@ -84,12 +79,7 @@ with tempfile.TemporaryDirectory() as room:
         """A new silo in a folder of its own, of which runs have carried these lines."""
         global made
         made += 1
-        folder = os.path.join(room, f"silo{made}")
-        os.mkdir(folder)
-        for at, given in enumerate([BANK, *inputs]):
-            ended = run(folder, "init" if at == 0 else "run", given=given)
-            assert ended.number == 0, ended
-        return folder
+        return silo_folder(room, f"silo{made}", BANK, *inputs)
 
     def told(folder):
         """A folder with its records and bytes."""

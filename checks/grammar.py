@@ -3,8 +3,9 @@ form that the page says to write, and none that it says there isn't.
 
 The rules are read from the page (its block ```ebnf), and texts are read by them with an Earley reader: so nothing but the page says
 here what the language is. The texts are the programs of the examples and the documents, some hundred that are grown by the rules, and
-some hundred made of all these by dropping, doubling, swapping and replacing tokens. Behind each stands `type type`, of which the second can stand nowhere: a text that the grammar
-has is refused there and no earlier, whatever its names stand for, since the grammar is tested before the names.
+some hundred made of all these by dropping, doubling, swapping and replacing tokens. Behind each stands `type type`, of which the second can
+stand nowhere: a text that the grammar has is refused there and no earlier, whatever its names stand for, since the grammar is tested before
+the names.
 """
 import os
 import random
@@ -20,7 +21,8 @@ MOST_LINES = 25
 OPERATORS = "( ! - + * / % < > <= >= == != && ||".split()
 SAMPLES = {"NAME": [("name", "a"), ("name", "read"), ("name", "x_1")], "NUMBER": [("number", "0"), ("number", "17")], "TEXT": [("text", '""'), ("text", '"a b"')]}
 
-TOKEN = re.compile(r'(?P<gap>[ \t\r\n]+|#[^\n]*)|(?P<name>[a-z][a-z0-9_]*)|(?P<number>0|[1-9][0-9]*)|(?P<text>"[^"\\\n]*")|(?P<symbol>&&|\|\||[<>=!]=|[{}();,.=+\-*/%<>!])')
+TOKEN = re.compile(r'(?P<gap>[ \t\r\n]+|#[^\n]*)|(?P<name>[a-z][a-z0-9_]*)|(?P<number>0|[1-9][0-9]*)|(?P<text>"[^"\\\n]*")|'
+                   r'(?P<symbol>&&|\|\||[<>=!]=|[{}();,.=+\-*/%<>!])')
 
 
 def read(*parts):
@@ -108,7 +110,8 @@ class Grammar:
     def grown(self, random_one, name, left):
         """The tokens of a rule that is grown at random, with at most so many rules in one another where that is possible."""
         heights = self.least = getattr(self, "least", None) or self.heights()
-        choices = [choice for choice in self.rules[name] if self.height(choice, heights) <= left] or [min(self.rules[name], key=lambda choice: self.height(choice, heights))]
+        choices = [choice for choice in self.rules[name] if self.height(choice, heights) <= left]
+        choices = choices or [min(self.rules[name], key=lambda choice: self.height(choice, heights))]
         # What may come again is left out mostly, so that texts stay short.
         picked = [] if name in self.again and random_one.random() < 0.6 else random_one.choice(choices)
         tokens = []

@@ -3,12 +3,17 @@ import collections
 import json
 import os
 import resource
+import shutil
 import subprocess
 import sys
 import tempfile
+import time
 
 TOP = os.path.dirname(os.path.dirname(os.path.abspath(__file__)))
-PROGRAM = os.environ.get("SILO", os.path.join(TOP, "crates", "silo", "out", "silo"))
+PROGRAM = os.path.abspath(os.environ.get("SILO") or os.path.join(TOP, "crates", "silo", "out", "silo"))
+# Where files lie in memory, so that syncs cost nothing: None where the system has no such place.
+MEMORY = "/dev/shm" if os.access("/dev/shm", os.W_OK) else None
+READER = os.path.join(TOP, "examples", "reader", "read.py")
 
 # The program of the silos here.
 with open(os.path.join(TOP, "examples", "bank", "bank.grain"), "rb") as file:
@@ -25,14 +30,24 @@ FIRST_PROGRAM = ("type account { field balance = 0; method deposit(n) createorjo
 Ended = collections.namedtuple("Ended", "number output errors")
 
 
+def line(call, *args):
+    """A request line."""
+    return json.dumps({"args": args, "call": call}).encode() + b"\n"
+
+
 def deposit(amount, account=1):
     """A request line that deposits so much."""
-    return json.dumps({"args": [amount], "call": f"account/{account}.deposit"}).encode() + b"\n"
+    return line(f"account/{account}.deposit", amount)
 
 
 def ask(account=1):
     """A request line that asks for a balance."""
-    return json.dumps({"args": [], "call": f"account/{account}.read"}).encode() + b"\n"
+    return line(f"account/{account}.read")
+
+
+def objects(lines):
+    """The JSON objects of whole lines; what is behind the last line feed is cut off."""
+    return [json.loads(one) for one in lines.split(b"\n")[:-1]]
 
 
 def reply(n, balance, unit):
@@ -91,7 +106,8 @@ def make_old(folder):
                     file.write(as_before(manager))
 
 
-def run(*words, given=b"", closed=(), streams=None, memory=None, threads=None, files=None, bound=False, on=None, shim=None, seconds=100, program=PROGRAM):
+def run(*words, given=b"", closed=(), streams=None, memory=None, threads=None, open_files=None, bound=False, on=None, shim=None,
+        seconds=100, program=PROGRAM):
     """Runs the program over this input, with these descriptors closed, and at most so many bytes of memory, threads and open files;
     `bound` by what the folder's files permit, which the superuser isn't; `on` these processors alone; with the words `shim` in the
     environment beside the others. One that takes longer than so many seconds is ended, and has no number."""
@@ -101,8 +117,8 @@ def run(*words, given=b"", closed=(), streams=None, memory=None, threads=None, f
             resource.setrlimit(resource.RLIMIT_AS, (memory, memory))
         if threads is not None:
             resource.setrlimit(resource.RLIMIT_NPROC, (threads, threads))
-        if files is not None:
-            resource.setrlimit(resource.RLIMIT_NOFILE, (files, files))
+        if open_files is not None:
+            resource.setrlimit(resource.RLIMIT_NOFILE, (open_files, open_files))
         # The superuser isn't bound by that: another user is, whose threads are these alone.
         if (threads is not None or bound) and os.geteuid() == 0:
             os.setgid(OTHER_USER)
@@ -117,7 +133,7 @@ def run(*words, given=b"", closed=(), streams=None, memory=None, threads=None, f
         given_to.seek(0)
         at = {"stdin": given_to, "stdout": output, "stderr": errors, **(streams or {})}
         # What is done between fork and exec makes a start slow, and isn't for threads.
-        limits = (memory, threads, files, on)
+        limits = (memory, threads, open_files, on)
         before = prepare if closed or bound or any(limit is not None for limit in limits) else None
         try:
             number = subprocess.run([program, *words], preexec_fn=before, timeout=seconds, env={**os.environ, **(shim or {})}, **at).returncode
@@ -128,9 +144,41 @@ def run(*words, given=b"", closed=(), streams=None, memory=None, threads=None, f
         return Ended(number, output.read(), errors.read())
 
 
+def read_states(folder):
+    """What the reader of examples/reader says of a folder's states and the next unit, and the number that it ends with."""
+    done = subprocess.run([sys.executable, READER, folder], capture_output=True)
+    return done.returncode, [told for told in done.stdout.splitlines() if b'"grain"' in told or b'"next_unit"' in told]
+
+
 def start(*words, shim=None):
     """Starts the program, whose input is a pipe that stays open."""
     return subprocess.Popen([PROGRAM, *words], stdin=subprocess.PIPE, stdout=subprocess.PIPE, stderr=subprocess.PIPE, env={**os.environ, **(shim or {})})
+
+
+def comes(holds, seconds=60):
+    """Whether something comes to hold within so many seconds."""
+    until = time.monotonic() + seconds
+    while not holds():
+        if time.monotonic() > until:
+            return False
+        time.sleep(0.02)
+    return True
+
+
+def kill_after(seconds, *words, given=b""):
+    """Runs the program over this input, and kills it after so many seconds."""
+    with tempfile.TemporaryFile() as lines:
+        lines.write(given)
+        lines.seek(0)
+        process = subprocess.Popen([PROGRAM, *words], stdin=lines, stdout=subprocess.DEVNULL, stderr=subprocess.DEVNULL)
+        time.sleep(seconds)
+        process.kill()
+        process.wait()
+
+
+def can_trace():
+    """Whether calls of the system can be traced here."""
+    return shutil.which("strace") is not None and subprocess.run(["strace", "true"], capture_output=True).returncode == 0
 
 
 def silo_folder(room, name, *commands):
@@ -149,6 +197,26 @@ def stand_in(room, name, *lines):
         file.write("\n".join(["#!/bin/bash", *lines]) + "\n")
     os.chmod(path, 0o755)
     return path
+
+
+def write_or_compare(crate, texts, words):
+    """Writes what a program of tests is run on and what it has to say, or with the word `--check` says whether its files are these. Gives the
+    status of the script that makes them."""
+    if words not in ([], ["--check"]):
+        print(f"the word is --check, or none: {' '.join(words)}", file=sys.stderr)
+        return 2
+    wrong = 0
+    for name, text in zip(("stdin", "stdout"), texts):
+        path = os.path.join(TOP, "crates", crate, name)
+        if not words:
+            with open(path, "w", encoding="utf-8") as file:
+                file.write(text)
+            continue
+        with open(path, encoding="utf-8") as file:
+            is_same = file.read() == text
+        print(f"crates/{crate}/{name} {'is' if is_same else 'is not'} what is made here")
+        wrong += not is_same
+    return 1 if wrong else 0
 
 
 class Rows:

@@ -2,7 +2,7 @@
 later run goes on."""
 import json
 
-from harness import BANK, run
+from harness import BANK, line, objects, run
 from shim import NO_FILE
 
 ACCOUNTS = 4
@@ -29,16 +29,6 @@ type mover {
   }
 }
 """
-
-
-def line(call, *args):
-    """A request line."""
-    return json.dumps({"args": args, "call": call}).encode() + b"\n"
-
-
-def objects(lines):
-    """The JSON objects of whole lines; what is behind the last line feed is cut off."""
-    return [json.loads(one) for one in lines.split(b"\n")[:-1]]
 
 
 def make(folder, accounts=ACCOUNTS, text=PROGRAM_TEXT):

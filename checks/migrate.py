@@ -4,11 +4,10 @@ import json
 import os
 import random
 import shutil
-import subprocess
 import tempfile
 import time
 
-from harness import BANK, PROGRAM, Rows, deposit, files, held, little, make_old, run, says, silent, silo_folder
+from harness import BANK, Rows, deposit, files, held, kill_after, line, little, make_old, run, says, silent, silo_folder
 
 KILLS = 100
 GRAINS = 200
@@ -38,14 +37,6 @@ def program_of(fields):
     return f"type wide {{ {listed} method put(n) createorjoin update {{ set f0 = n; return f{fields - 1}; }} }}".encode()
 
 
-def put(n):
-    return b'{"args":[%d],"call":"wide/1.put"}\n' % n
-
-
-def call(name, *arguments):
-    return json.dumps({"args": list(arguments), "call": name}).encode() + b"\n"
-
-
 def look(room):
     """One deposit: what each command says, the bytes, and what each says then."""
     one = silo_folder(room, "one", BANK, deposit(5))
@@ -67,7 +58,7 @@ def look(room):
     rows.row("what it stands for", told(one), known)
     rows.row("migrate again", run(one, "migrate"), NOT_OLD)
     rows.row("its files then", files(one), {**before, **made})
-    rows.row("a text that is too long", run(one, "run", given=call("account/1.deposit", "x" * 4097)), silent(b'{"bad":"args","n":1}\n'))
+    rows.row("a text that is too long", run(one, "run", given=line("account/1.deposit", "x" * 4097)), silent(b'{"bad":"args","n":1}\n'))
     run(one, "run", given=deposit(1))
     rows.row("the next session", sessions(one), [1, 2])
 
@@ -106,7 +97,7 @@ def carry(room):
     """Logs of each kind: nothing yet, children, a checkpoint, upgrades before and behind it, and stale files in the other slot."""
     kinds = {}
     kinds["nothing"] = silo_folder(room, "nothing", BANK)
-    kinds["children"] = silo_folder(room, "children", BANK, deposit(500), b'{"args":[1,2,5],"call":"teller/0.transfer"}\n' * 3)
+    kinds["children"] = silo_folder(room, "children", BANK, deposit(500), line("teller/0.transfer", 1, 2, 5) * 3)
     kinds["a checkpoint"] = silo_folder(room, "checkpoint", BANK, deposit(5), deposit(7, 2))
     run(kinds["a checkpoint"], "compact")
     kinds["blocks behind a checkpoint"] = silo_folder(room, "behind", BANK, deposit(5))
@@ -123,8 +114,7 @@ def carry(room):
         run(kinds["stale files"], "compact")
     for what, folder in kinds.items():
         known, entries = told(folder), len(run(folder, "history").output.splitlines())
-        for slot in (0, 1):
-            make_old(folder)
+        make_old(folder)
         rows.row(f"{what}: a run before", run(folder, "run", given=deposit(1)), OLD)
         rows.row(f"{what}: migrate", run(folder, "migrate"), silent())
         rows.row(f"{what}: what it stands for", told(folder), known)
@@ -141,9 +131,9 @@ def widen(room):
     notes = silo_folder(room, "notes", NOTES)
     for unit, size in ((1, 256), (3, 257), (5, 4096)):
         text = "é" * (size // 2) + "x" * (size % 2)
-        rows.row(f"a text of {size}", run(notes, "run", given=call("note/1.keep", text)), silent(b'{"n":1,"reply":1,"unit":%d}\n' % unit))
-        rows.row(f"it comes back, {size}", len(json.loads(run(notes, "run", given=call("note/1.get")).output)["reply"].encode()), size)
-    rows.row("a text over the limit", run(notes, "run", given=call("note/1.keep", "x" * 4097)), silent(b'{"bad":"args","n":1}\n'))
+        rows.row(f"a text of {size}", run(notes, "run", given=line("note/1.keep", text)), silent(b'{"n":1,"reply":1,"unit":%d}\n' % unit))
+        rows.row(f"it comes back, {size}", len(json.loads(run(notes, "run", given=line("note/1.get")).output)["reply"].encode()), size)
+    rows.row("a text over the limit", run(notes, "run", given=line("note/1.keep", "x" * 4097)), silent(b'{"bad":"args","n":1}\n'))
     rows.row("what is shown", len(json.loads(run(notes, "show").output.splitlines()[0])["fields"]["text"].encode()), 4096)
     rows.row("a session a run", sessions(notes), list(range(1, 7)))
     rows.row("its audit", run(notes, "audit"), silent(b'{"count":6,"first_bad":null}\n'))
@@ -151,8 +141,8 @@ def widen(room):
     # The text's length, behind the open gate, the length, the unit, the origin, the call's head and the argument's tag.
     rows.row("a text of 257 in format 1", run(notes, "migrate"), says(9, b"damaged manager-0.otx at %d" % long_text(held(notes, "manager-0.otx"))))
     for fields, wanted in ((16, silent()), (17, says(9, b"damaged grain-0-0-1.otx at 8")), (64, says(9, b"damaged grain-0-0-1.otx at 8"))):
-        wide = silo_folder(room, f"wide-{fields}", program_of(fields), put(3))
-        rows.row(f"{fields} fields", run(wide, "run", given=put(4)), silent(b'{"n":1,"reply":%d,"unit":2}\n' % (fields - 1)))
+        wide = silo_folder(room, f"wide-{fields}", program_of(fields), line("wide/1.put", 3))
+        rows.row(f"{fields} fields", run(wide, "run", given=line("wide/1.put", 4)), silent(b'{"n":1,"reply":%d,"unit":2}\n' % (fields - 1)))
         make_old(wide)
         rows.row(f"{fields} fields in format 1", run(wide, "migrate"), wanted)
     rows.row("65 fields", run(silo_folder(room, "wider", b""), "upgrade", given=program_of(65)), says(10, b"bad program at %d" % (program_of(65).index(b"f64 "))))
@@ -176,10 +166,7 @@ def kill(room):
     shutil.rmtree(kept)
     shutil.copytree(template, kept)
     for turn in range(KILLS):
-        process = subprocess.Popen([PROGRAM, kept, "migrate"], stdout=subprocess.DEVNULL, stderr=subprocess.DEVNULL)
-        time.sleep(draws.uniform(0, 1.1 * longest))
-        process.kill()
-        process.wait()
+        kill_after(draws.uniform(0, 1.1 * longest), kept, "migrate")
         shown = run(kept, "show")
         seen.add(shown.number)
         if shown not in (OLD, wanted):

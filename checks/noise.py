@@ -15,9 +15,8 @@ import tempfile
 
 import kept
 import shim
-from harness import Rows, run
+from harness import MEMORY, Rows, line, run
 
-MEMORY = "/dev/shm" if os.path.isdir("/dev/shm") else None
 FILES = ".,0,1,manager-*,program-*,grain-*"
 LINES = 60
 # More than the replies that workers may be ahead of.
@@ -34,7 +33,7 @@ def lines_over(grains, draw, count=LINES):
     lines = []
     for _ in range(count):
         call = draw.choice(["teller/0.transfer"] * 3 + ["mover/0.move", "mover/0.count", "mover/0.spoil", "account/0.read"])
-        lines.append(kept.line(call, *(() if call.endswith("read") else (draw.randrange(grains), draw.randrange(grains), draw.randrange(1, 20)))))
+        lines.append(line(call, *(() if call.endswith("read") else (draw.randrange(grains), draw.randrange(grains), draw.randrange(1, 20)))))
     return lines
 
 

@@ -3,10 +3,10 @@
 
 Most rows are worked out by hand from docs/FORMATS.md. A folder of 20 records over 5 grains, changed byte by byte and cut at each
 length, is answered by the second reader below: plain walks by the tables of docs/FORMATS.md."""
-import pathlib
 import sys
 
 from harness import FIRST_PROGRAM as TEXT
+from harness import write_or_compare
 
 CASES, TOLD = [], []
 BANK = (TEXT[:-1] + "method withdraw(n) createorjoin update { set balance = balance - n; return balance; } } "
@@ -886,10 +886,4 @@ transfer()
 pieces()
 checkpoints()
 both_formats()
-crate = pathlib.Path(__file__).resolve().parent.parent / "crates" / "opening_tests"
-for name, lines in (("stdin", CASES), ("stdout", TOLD)):
-    text = "\n".join(lines) + "\n"
-    if "--check" not in sys.argv[1:]:
-        (crate / name).write_text(text)
-    elif (crate / name).read_text() != text:
-        sys.exit(f"opening_cases: {name} isn't what is made here")
+sys.exit(write_or_compare("opening_tests", ["\n".join(lines) + "\n" for lines in (CASES, TOLD)], sys.argv[1:]))

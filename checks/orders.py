@@ -12,19 +12,14 @@ import sys
 import tempfile
 
 import shim
-from harness import TOP, Ended, Rows, ask, deposit, reply, run
+from harness import MEMORY, TOP, Ended, Rows, ask, deposit, line, reply, run
 
 sys.path.insert(0, os.path.join(TOP, "examples", "reader"))
 import read  # noqa: E402
 
-MEMORY = "/dev/shm" if os.path.isdir("/dev/shm") else None
 GATE = 15
 
 rows = Rows("orders")
-
-
-def line(call, *args):
-    return json.dumps({"args": args, "call": call}).encode() + b"\n"
 
 
 def records(folder):

@@ -3,8 +3,8 @@
 As a check that the recipes of docs/CHANGING.md leave out no file:  checks/places.py --check
 
 A name is a word of the sources. `FileId::Program` is that variant of that enum, which a file of definitions names by what it brings in
-(`FileId.TheVariants`). Comments aren't looked at, nor lines that only bring a name in, nor crates of tests. A recipe has the command by which its places are found, and names each file that it finds,
-or the folder that the file is in, as `script_machine/proofs`.
+(`FileId.TheVariants`). Comments aren't looked at, nor lines that only bring a name in, nor crates of tests. A recipe has the command by which
+its places are found, and names each file that it finds, or the folder that the file is in, as `script_machine/proofs`.
 """
 import os
 import re

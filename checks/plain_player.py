@@ -8,7 +8,7 @@ import collections
 Type = collections.namedtuple("Type", "name fields methods")
 Method = collections.namedtuple("Method", "name parameters option kind body")
 
-STEPS, FRAMES, UNITS, GRAINS, LONGEST = 10_000, 32, 64, 64, 256
+STEPS, FRAMES, UNITS, GRAINS, LONGEST = 10_000, 32, 64, 64, 4096
 ABORTED = "aborted"
 
 

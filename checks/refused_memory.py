@@ -11,11 +11,10 @@ import tempfile
 
 import shim
 from damage import TEXTS
-from harness import FIRST_PROGRAM, Rows, ask, deposit, make_old, run
+from harness import FIRST_PROGRAM, MEMORY, Rows, ask, deposit, line, make_old, run
 
-MEMORY = "/dev/shm" if os.path.isdir("/dev/shm") else None
 READING = FIRST_PROGRAM[:-1] + "method read() createorjoin read { return balance; } }"
-OUTER = b'{"args":[],"call":"probe/3.outer"}\n'
+OUTER = line("probe/3.outer")
 UPGRADED = TEXTS.replace('field note = "";', 'field note = ""; field limit = 7;').encode()
 
 # What each case is, its program, the runs before it, its words and its input.

@@ -2,17 +2,11 @@
 import os
 import tempfile
 
-from harness import BANK, Rows, ask, deposit, reply, run, says, silent
+from harness import BANK, MEMORY, Rows, ask, deposit, held, line, reply, run, says, silent
 
 rows = Rows("reports")
-MEMORY = "/dev/shm" if os.path.isdir("/dev/shm") else None
 
 SUMMARY = b'{"aborted":%d,"committed":%d,"faulted":%d,"requests":%d,"total":64000}\n'
-
-
-def line(call, *args):
-    listed = ",".join(str(arg) for arg in args)
-    return f'{{"args":[{listed}],"call":"{call}"}}\n'.encode()
 
 
 def number_in(summary, key):
@@ -44,8 +38,7 @@ with tempfile.TemporaryDirectory(dir=MEMORY) as room:
 
     # The log of a deposit, with a byte changed or cut.
     log = os.path.join(one, "manager-0.otx")
-    with open(log, "rb") as file:
-        whole = file.read()
+    whole = held(one, "manager-0.otx")
     for what, content, command, wanted in [
         ("another result", whole[:68] + b"\6" + whole[69:], "audit", silent(b'{"count":1,"first_bad":1}\n')),
         ("a cut log", whole[:50], "show", says(9, b"damaged manager-0.otx at 16")),
@@ -59,24 +52,21 @@ with tempfile.TemporaryDirectory(dir=MEMORY) as room:
 
     # Folders that open and that no one-thread store left: a run goes on over them, answers truly from what they read, and leaves what
     # it found but for the gate at which its own record begins.
-    with open(os.path.join(cut, "manager-0.otx"), "rb") as file:
-        logged = file.read()
-    (versions,) = [name for name in os.listdir(cut) if name not in ("manager-0.otx", "program-0.otx")]
-    with open(os.path.join(cut, versions), "rb") as file:
-        version = file.read()
+    [versions] = [name for name in os.listdir(cut) if name not in ("manager-0.otx", "program-0.otx")]
+    version = held(cut, versions)
     for what, file_name, at, byte, balance in [
         ("another result", "manager-0.otx", 68, 6, 5),
         ("another balance", versions, version.index(b"\5"), 9, 9),
     ]:
         other = folder(what.replace(" ", "-"))
         for name in os.listdir(cut):
-            with open(os.path.join(cut, name), "rb") as old, open(os.path.join(other, name), "wb") as new:
-                content = bytearray(old.read())
-                if name == file_name:
-                    content[at] = byte
-                new.write(content)
+            content = bytearray(held(cut, name))
+            if name == file_name:
+                content[at] = byte
+            with open(os.path.join(other, name), "wb") as file:
+                file.write(content)
         result = 6 if file_name == "manager-0.otx" else 5
-        found = open(os.path.join(other, "manager-0.otx"), "rb").read()
+        found = held(other, "manager-0.otx")
         rows.row(f"audit of {what}", run(other, "audit"), silent(b'{"count":1,"first_bad":1}\n'))
         rows.row(f"a run over {what}", run(other, "run", given=deposit(7) + ask() + deposit(1, account=2)),
                  silent(reply(1, balance + 7, 2) + reply(2, balance + 7, 3) + reply(3, 1, 4)))
@@ -87,12 +77,10 @@ with tempfile.TemporaryDirectory(dir=MEMORY) as room:
             b'{"args":[1],"call":"account/2.deposit","n":3,"reply":1,"session":2,"unit":4}'])
         rows.row(f"audit behind {what}", run(other, "audit"), silent(b'{"count":4,"first_bad":1}\n'))
         gate = len(found) - 1
-        with open(os.path.join(other, "manager-0.otx"), "rb") as file:
-            left = file.read()
+        left = held(other, "manager-0.otx")
         rows.row(f"the log behind {what}", (left[:gate], left[gate]), (found[:gate], 1))
-        with open(os.path.join(other, versions), "rb") as file:
-            rows.row(f"the versions behind {what}", file.read()[:len(version)],
-                     version if file_name == "manager-0.otx" else version[:at] + bytes([byte]) + version[at + 1:])
+        rows.row(f"the versions behind {what}", held(other, versions)[:len(version)],
+                 version if file_name == "manager-0.otx" else version[:at] + bytes([byte]) + version[at + 1:])
 
     # Loads: what a load of this number and seed sums up to, in two folders alike.
     rows.row("a load of four", run(folder("four"), "load", "4", "7"), silent(SUMMARY % (0, 68, 0, 68)))
@@ -107,12 +95,11 @@ with tempfile.TemporaryDirectory(dir=MEMORY) as room:
         rows.row(f"load {words}", run(room, "load", *words), says(2, b"bad use"))
 
     # The options of calls, in a silo of the program that loads carry.
-    with open(os.path.join(room, "four", "program-0.otx"), "rb") as file:
-        program = file.read()[4:]
-    probes = folder("probes", program)
+    probes = folder("probes", held(os.path.join(room, "four"), "program-0.otx")[4:])
     run(probes, "run", given=line("probe/0.needs") + line("probe/0.calls_lone") + line("probe/0.lone"))
     rows.row("history of options", run(probes, "history"), silent(b'{"args":[],"call":"probe/0.calls_lone","fault":"not allowed","n":2,"session":1,"unit":2}\n'))
     run(probes, "run", given=line("probe/3.outer"))
-    rows.row("history of a child that was refused", run(probes, "history").output.split(b"\n")[1:], [b'{"args":[],"call":"probe/3.outer","n":1,"reply":11,"session":2,"unit":3}', b""])
+    refused = b'{"args":[],"call":"probe/3.outer","n":1,"reply":11,"session":2,"unit":3}'
+    rows.row("history of a child that was refused", run(probes, "history").output.split(b"\n")[1:], [refused, b""])
 
 rows.end()

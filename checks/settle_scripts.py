@@ -5,10 +5,10 @@
 A row is a line of a script and what is said to it; `crates/settle_tests/src/verbs.rt` tells the lines. A file is an account's
 number, or -1, which is the manager's. Files are written before the log: a transfer makes two calls for each of two accounts,
 two for the block, two for its gate, and one for its reply line."""
-import os
 import sys
 
-FOLDER = os.path.join(os.path.dirname(os.path.dirname(os.path.abspath(__file__))), "crates", "settle_tests")
+from harness import write_or_compare
+
 MANAGER = -1
 RESTS, WRITE_FAULT, IN_DOUBT = "rests", "stops by a write fault", "stops in doubt"
 READ_FAULT, DAMAGED = "stops by a read fault", "stops by a damaged file"
@@ -335,18 +335,7 @@ def main(words):
         for line, text in [(f"title {title}", title), *rows]:
             lines.append(line + "\n")
             said.append(text + "\n")
-    wrong = 0
-    for name, texts in (("stdin", lines), ("stdout", said)):
-        path = os.path.join(FOLDER, name)
-        if words != ["--check"]:
-            with open(path, "w", encoding="utf-8") as file:
-                file.write("".join(texts))
-            continue
-        with open(path, encoding="utf-8") as file:
-            if file.read() != "".join(texts):
-                print(f"settle_scripts: {path} isn't what this script makes", file=sys.stderr)
-                wrong = 1
-    return wrong
+    return write_or_compare("settle_tests", ("".join(lines), "".join(said)), words)
 
 
 if __name__ == "__main__":

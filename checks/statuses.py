@@ -28,8 +28,10 @@ with tempfile.TemporaryDirectory() as room:
 
     # 2: bad use. The folder isn't touched.
     unused = folder("unused")
-    for words in ([], [unused], [unused, "runs"], [unused, "run", "run"], [unused, "init", "x"], [unused, "run", "--width", "0"], [unused, "run", "--width"], [unused, "run", "--turns", "1,"], [unused, "run", "--workers", "0"], [unused, "show", "x"], [unused, "upgrade", "x"], [unused, "load", "0", "7"], [unused, "--help"], [unused, b"\xff"]):
-        rows.row(f"words {words[1:]}", run(*words, given=deposit(5)), says(2, b"bad use"))
+    rows.row("no words", run(given=deposit(5)), says(2, b"bad use"))
+    for words in ([], ["runs"], ["run", "run"], ["init", "x"], ["run", "--width", "0"], ["run", "--width"], ["run", "--turns", "1,"],
+                  ["run", "--workers", "0"], ["show", "x"], ["upgrade", "x"], ["load", "0", "7"], ["--help"], [b"\xff"]):
+        rows.row(f"words {words}", run(unused, *words, given=deposit(5)), says(2, b"bad use"))
     rows.row("an unused folder", os.listdir(unused), [])
 
     # 3: no memory. Nothing was carried, since the first 4,096 lines have more bytes than the program may have at all, though it starts.

@@ -3,14 +3,11 @@ upgrade is named, and that a kill at any time leaves a silo with the upgrade or 
 import os
 import random
 import shutil
-import subprocess
-import sys
 import tempfile
 import time
 
-from harness import BANK, PROGRAM, TOP, Rows, ask, deposit, files, held, little, reply, run, says, silent, silo_folder
+from harness import BANK, Rows, ask, deposit, files, held, kill_after, little, read_states, reply, run, says, silent, silo_folder
 
-READER = os.path.join(TOP, "examples", "reader", "read.py")
 PROGRAM_LIMIT = 262_144
 KILLS = 100
 
@@ -55,12 +52,6 @@ def version(unit, *values):
     return little(unit, 8) + little(len(values), 2) + b"".join(b"\0" + little(value, 8) for value in values)
 
 
-def read(folder):
-    """What a reader of the bytes says of the states and the next unit."""
-    done = subprocess.run([sys.executable, READER, folder], capture_output=True)
-    return done.returncode, [line for line in done.stdout.splitlines() if b'"grain"' in line or b'"next_unit"' in line]
-
-
 def look(room):
     """One deposit, and a field more: the bytes, and what each command says then."""
     one = silo_folder(room, "one", BANK, deposit(5))
@@ -71,7 +62,7 @@ def look(room):
     rows.row("states", run(one, "show"), silent(fields(5, 7) + count(2)))
     rows.row("history", run(one, "history"), silent(told + b'{"session":2,"upgrade":%d}\n' % len(LIMIT)))
     rows.row("audit", run(one, "audit"), audited(2))
-    rows.row("the reader", read(one), (0, [b'{"grain": "account/1", "state": {"balance": 5, "limit": 7}}', b'{"next_unit": 2}']))
+    rows.row("the reader", read_states(one), (0, [b'{"grain": "account/1", "state": {"balance": 5, "limit": 7}}', b'{"next_unit": 2}']))
     again = os.path.join(room, "again")
     shutil.copytree(one, again)
 
@@ -79,13 +70,13 @@ def look(room):
     rows.row("a deposit behind it", run(one, "run", given=deposit(1)), silent(reply(1, 6, 2)))
     rows.row("its version", held(one, "grain-0-0-1.otx"), version(1, 5) + version(2, 6, 7))
     for folder, last, units, entries in ((one, version(2, 6, 7), 3, 3), (again, version(1, 5, 7), 2, 2)):
-        shown, known = run(folder, "show"), read(folder)
+        shown, known = run(folder, "show"), read_states(folder)
         rows.row(f"compact behind {entries}", run(folder, "compact"), silent())
         rows.row(f"its program, {entries}", held(folder, "program-1.otx"), little(len(LIMIT), 4) + LIMIT)
         rows.row(f"its version, {entries}", held(folder, "grain-1-0-1.otx"), last)
         piece = b"\0" + little(entries, 8) + little(units, 8) + little(entries, 8) + little(1, 4) + little(0, 2) + little(1, 4) + little(0, 8) + little(28, 4)
         rows.row(f"its manager file, {entries}", held(folder, "manager-1.otx"), b"\1OTXLOG02" + little(1, 4) + b"\1\0\1" + little(len(piece), 4) + piece + b"\0")
-        rows.row(f"what it stands for, {entries}", (run(folder, "show"), read(folder)), (shown, known))
+        rows.row(f"what it stands for, {entries}", (run(folder, "show"), read_states(folder)), (shown, known))
         rows.row(f"its history, {entries}", run(folder, "history"), silent())
     return before
 
@@ -142,9 +133,9 @@ def carry(room):
         told += b'{"args":[1],"call":"account/1.deposit","n":1,"reply":%d,"session":%d,"unit":%d}\n' % (6 + at, 3 + 2 * at, 2 + at)
     rows.row("history of three", run(turns, "history"), silent(told))
     rows.row("audit of three", run(turns, "audit"), audited(7))
-    shown = run(turns, "show"), read(turns)
+    shown = run(turns, "show"), read_states(turns)
     rows.row("compact of three", run(turns, "compact"), silent())
-    rows.row("what it stands for", (run(turns, "show"), read(turns)), shown)
+    rows.row("what it stands for", (run(turns, "show"), read_states(turns)), shown)
 
     # Without a deposit between: dropped and added again, it begins anew all the same.
     gone = silo_folder(room, "gone", LIMIT, deposit(5))
@@ -176,7 +167,8 @@ def damage(room, before):
         ("a text that ends with no character", before, made, upgrade_block(LIMIT[:-1] + b"\xff"), TEXT + len(LIMIT) - 1),
         ("that, and a byte more", before, made, upgrade_block(LIMIT[:-1] + b"\xff", more=b"\0"), TEXT + len(LIMIT) - 1),
         ("another name", empty, empty["manager-0.otx"][:15], upgrade_block(BARE.replace(b"account", b"accounx")), FIRST_TEXT + 5),
-        ("another name, and a byte more", empty, empty["manager-0.otx"][:15], upgrade_block(BARE.replace(b"teller", b"tellex"), more=b"\0"), FIRST_TEXT + BARE.index(b"teller")),
+        ("another name, and a byte more", empty, empty["manager-0.otx"][:15],
+         upgrade_block(BARE.replace(b"teller", b"tellex"), more=b"\0"), FIRST_TEXT + BARE.index(b"teller")),
         ("a type less", empty, empty["manager-0.otx"][:15], upgrade_block(ONE_TYPE), FIRST_TEXT + len(ONE_TYPE)),
         ("another name before a type less", empty, empty["manager-0.otx"][:15], upgrade_block(b"type accounx { }"), FIRST_TEXT + 5),
         ("no types", empty, empty["manager-0.otx"][:15], upgrade_block(b""), FIRST_TEXT),
@@ -203,12 +195,7 @@ def kill(room):
     for turn in range(KILLS):
         # One with the field and one without it in turn.
         text, to = (LIMIT, 7) if limit is None else (BANK, None)
-        process = subprocess.Popen([PROGRAM, one, "upgrade"], stdin=subprocess.PIPE, stdout=subprocess.DEVNULL, stderr=subprocess.DEVNULL)
-        process.stdin.write(text)
-        process.stdin.close()
-        time.sleep(draws.uniform(0, longest))
-        process.kill()
-        process.wait()
+        kill_after(draws.uniform(0, longest), one, "upgrade", given=text)
         shown = run(one, "show")
         had, has = silent(fields(5, limit) + count(entries)), silent(fields(5, to) + count(entries + 1))
         if shown not in (had, has):

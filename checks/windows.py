@@ -12,8 +12,9 @@ import tempfile
 import core_rules
 from harness import BANK, PROGRAM, TOP, Rows, run
 
+sys.dont_write_bytecode = True
 sys.path.insert(0, os.path.join(TOP, "tools", "python"))
-import silo
+import silo  # noqa: E402
 
 WINDOW = 4096
 # How many of the grains used last stay in memory though nobody uses them.
@@ -232,7 +233,8 @@ def stream(room):
             it.stdin.write(request(1, 1) * 5 + b"\n" * (WINDOW - 5))
             it.stdin.flush()
             replies = [it.stdout.readline() for _ in range(WINDOW)]
-            rows.row(f"window {window}: replies", (len(replies), sum(b'"reply"' in line for line in replies) + sum(b'"aborted"' in line for line in replies)), (WINDOW, 5))
+            answered = sum(b'"reply"' in line or b'"aborted"' in line for line in replies)
+            rows.row(f"window {window}: replies", (len(replies), answered), (WINDOW, 5))
         it.stdin.close()
         rows.row("the end", (it.stdout.read(), it.wait()), (b"", 0))
 

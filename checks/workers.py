@@ -5,33 +5,24 @@ import os
 import subprocess
 import tempfile
 
-from harness import BANK, PROGRAM, TOP, Rows, deposit, run
+from harness import BANK, MEMORY, PROGRAM, TOP, Rows, deposit, line, objects, run, silo_folder
+from kept import money
 
 WORKERS = ("1", "2", "16")
 ACCOUNTS = 8
 MONEY = 1000 * ACCOUNTS
+LINE_LIMIT = 65_536
 PAID_IN = b"".join(deposit(1000, account) for account in range(ACCOUNTS))
 
 
 def transfers(count):
     """Transfers round and round."""
-    calls = ((at % ACCOUNTS, (at * 3 + 1) % ACCOUNTS, 1 + at % 7) for at in range(count))
-    return b"".join(json.dumps({"args": call, "call": "teller/0.transfer"}).encode() + b"\n" for call in calls)
-
-
-def objects(lines):
-    """The JSON objects of whole lines; what is behind the last line feed is cut off."""
-    return [json.loads(line) for line in lines.split(b"\n")[:-1]]
+    return b"".join(line("teller/0.transfer", at % ACCOUNTS, (at * 3 + 1) % ACCOUNTS, 1 + at % 7) for at in range(count))
 
 
 def number(reply):
     """The number of the reply's line."""
     return reply["n"]
-
-
-def money(folder):
-    """The sum of all balances."""
-    return sum(line["fields"]["balance"] for line in objects(run(folder, "show").output) if "grain" in line)
 
 
 def kept(folder, before, replies):
@@ -43,18 +34,14 @@ def kept(folder, before, replies):
 
 rows = Rows("workers")
 
-with tempfile.TemporaryDirectory() as room:
+with tempfile.TemporaryDirectory(dir=MEMORY) as room:
     made = 0
 
     def silo(given=PAID_IN):
         """A new silo of the bank, behind a run of these lines."""
         global made
         made += 1
-        folder = os.path.join(room, str(made))
-        os.mkdir(folder)
-        run(folder, "init", given=BANK)
-        run(folder, "run", given=given)
-        return folder
+        return silo_folder(room, str(made), BANK, given)
 
     # The examples' requests, one line after another and by one worker: each line is carried alone, so the replies are fixed.
     for name in ("bank", "stock"):
@@ -62,12 +49,10 @@ with tempfile.TemporaryDirectory() as room:
             program = file.read()
         with open(os.path.join(TOP, "examples", name, "requests.jsonl"), "rb") as file:
             requests = file.read()
-        folders = [os.path.join(room, f"{name}{n}") for n in (1, 2)]
-        for folder in folders:
-            os.mkdir(folder)
-            run(folder, "init", given=program)
+        folders = [silo_folder(room, f"{name}{n}", program) for n in (1, 2)]
         one, other = run(folders[0], "run", given=requests), run(folders[1], "run", "--workers", "1", given=requests)
-        rows.row(f"{name} by one worker", (other.number, sorted(objects(other.output), key=number), other.errors), (one.number, sorted(objects(one.output), key=number), one.errors))
+        found, wanted = ((ended.number, sorted(objects(ended.output), key=number), ended.errors) for ended in (other, one))
+        rows.row(f"{name} by one worker", found, wanted)
 
     # Lines that don't meet: each reply is fixed but for the unit's number and its place.
     apart = b"".join(deposit(5, account) for account in range(100, 164))
@@ -85,13 +70,14 @@ with tempfile.TemporaryDirectory() as room:
                  (0, list(range(1, 401)), MONEY, True))
         rows.row(f"an audit behind {workers}", run(folder, "audit").output.endswith(b'"first_bad":null}\n'), True)
 
-    # No line, a bad line, an input that is too long.
+    # No line, a bad line, a line that is too long.
     for workers in WORKERS:
         folder = silo()
-        for what, given in (("no line", b""), ("bad lines", b"{\n\n"), ("too long", b" " * 16_777_217)):
+        for what, given in (("no line", b""), ("bad lines", b"{\n\n"), ("too long", b" " * (LINE_LIMIT + 1))):
             alone = run(silo(), "run", given=given)
             found = run(folder, "run", "--workers", workers, given=given)
-            rows.row(f"{what} by {workers}", (found.number, sorted(found.output.split(b"\n")), found.errors), (alone.number, sorted(alone.output.split(b"\n")), alone.errors))
+            found, alone = ((ended.number, sorted(ended.output.split(b"\n")), ended.errors) for ended in (found, alone))
+            rows.row(f"{what} by {workers}", found, alone)
 
     # The output fails at once, or breaks off: what was answered stays, and so does the money.
     for workers in WORKERS:
@@ -99,8 +85,9 @@ with tempfile.TemporaryDirectory() as room:
         with open("/dev/full", "wb") as full:
             ended = run(folder, "run", "--workers", workers, given=transfers(50), streams={"stdout": full})
         rows.row(f"a full output by {workers}", (ended.number, ended.errors, money(folder)), (5, b"silo: write fault\n", MONEY))
-        with subprocess.Popen([PROGRAM, folder, "run", "--workers", workers], stdin=subprocess.PIPE, stdout=subprocess.PIPE, stderr=subprocess.DEVNULL) as broken:
-            before = len(objects(run(silo(), "history").output)[:-1])
+        before = len(objects(run(folder, "history").output))
+        streams = {"stdin": subprocess.PIPE, "stdout": subprocess.PIPE, "stderr": subprocess.DEVNULL}
+        with subprocess.Popen([PROGRAM, folder, "run", "--workers", workers], **streams) as broken:
             broken.stdin.write(transfers(3000))
             broken.stdin.close()
             seen = b"".join(broken.stdout.readline() for _ in range(40))
