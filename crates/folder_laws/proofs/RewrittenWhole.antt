@@ -1,5 +1,5 @@
 -- A folder stays whole behind a command that changes no image, and behind one that writes its log anew or makes it longer by an upgrade.
-use Rattle.std.proofs.Common.{◌≡◌, ◌⊎◌, inl, inr, ℕ, ◌-◌, ◌<◌, length, List, [], ◌∷◌, ◌++◌, refl, sym, ap, subst, ◌∙◌}
+use Rattle.std.proofs.Common.{◌≡◌, ◌⊎◌, inl, inr, ℕ, ◌-◌, ◌<◌, length, List, [], ◌∷◌, refl, sym, ap, subst}
 use Rattle.host_trait.specs.declared.channels.FileId.{FileId}
 use Rattle.host_trait.specs.declared.channels.FileId.TheVariants.{Manager}
 use Rattle.host_trait.specs.World.{World, Disk, Image, IsImage, moment_of}
@@ -9,8 +9,7 @@ use Rattle.silo_spec.specs.Silos.{IsMagic}
 use Rattle.silo_spec.specs.Slots.{ShowsSilos}
 use Rattle.silo_spec.specs.Moments.{IsUntouched}
 use Rattle.promise_spec.specs.Programs.{Program}
-use Rattle.promise_spec.specs.Records.{Commit}
-use Rattle.promise_spec.specs.Entries.{LogEntry, Recorded, Upgraded, records_among, Log, records_of, checkpointed, upgraded}
+use Rattle.promise_spec.specs.Entries.{Upgraded, Log, records_of, checkpointed, upgraded}
 use Rattle.promise_spec.specs.Logs.{IsLog, IsLogOf, HasLog}
 use Rattle.promise_spec.specs.Prefixes.{IsPrefixOf}
 use Rattle.promise_spec.specs.Images.{AreNumbered, IsWholeSilo, IsWholeIfSilo, IsWholeFolder}
@@ -20,6 +19,8 @@ use Rattle.promise_spec.specs.Compaction.{Rewrites, Compacts}
 use Rattle.promise_spec.specs.Migration.{Migrates}
 use Rattle.promise_spec.specs.Upgrading.{Upgrades, UpgradesSilo, program_read}
 use Rattle.promise_laws.specs.Closings.{ReadsMayStay}
+use Rattle.promise_laws.proofs.RewrittenFolders.{of_two, two_chain}
+use Rattle.promise_laws.proofs.SoundUpgrades.{records_upgraded}
 use Rattle.promise_spec.proofs.Lists.{in_append}
 use Rattle.promise_spec.proofs.OneLog.{one_log}
 use Rattle.promise_spec.proofs.Prefixes.{of_itself, saved, over_one_base}
@@ -51,16 +52,6 @@ IsNumbered log = AreNumbered log.base.next (records_of log)
 
 -- each image has one of two logs, of which the first is a prefix of the second
 module _ (a b : Log) (front : IsPrefixOf a b) (w : World) (either : (image : Image) → IsImage w.disk image → HasLog image a ⊎ HasLog image b) where
-  of_two : (image : Image) → HasLog image a ⊎ HasLog image b → (log : Log) → HasLog image log → (log ≡ a) ⊎ (log ≡ b)
-  of_two image (inl x) log y = inl (one_log y.0 x.0 y.1 x.1 image log a y.2 x.2)
-  of_two image (inr x) log y = inr (one_log y.0 x.0 y.1 x.1 image log b y.2 x.2)
-
-  two_chain : (x y : Log) → (x ≡ a) ⊎ (x ≡ b) → (y ≡ a) ⊎ (y ≡ b) → IsPrefixOf x y ⊎ IsPrefixOf y x
-  two_chain x y (inl e) (inl f) = inl (subst (λ (l : Log). IsPrefixOf x l) (e ∙ sym f) (of_itself x))
-  two_chain x y (inl e) (inr f) = inl (subst (λ (l : Log). IsPrefixOf l y) (sym e) (subst (λ (l : Log). IsPrefixOf a l) (sym f) front))
-  two_chain x y (inr e) (inl f) = inr (subst (λ (l : Log). IsPrefixOf l x) (sym f) (subst (λ (l : Log). IsPrefixOf a l) (sym e) front))
-  two_chain x y (inr e) (inr f) = inl (subst (λ (l : Log). IsPrefixOf x l) (e ∙ sym f) (of_itself x))
-
   whole_by : (image : Image) → HasLog image a ⊎ HasLog image b → IsNumbered a → IsNumbered b → IsWholeIfSilo image
   whole_by image (inl x) first second live is =
       subst (λ (slot : ℕ). IsWholeSilo slot image) (one_slot x.1 live image x.2.is_live is) (record { format = x.0; log = a; is = x.2; numbered = first })
@@ -69,7 +60,7 @@ module _ (a b : Log) (front : IsPrefixOf a b) (w : World) (either : (image : Ima
 
   two_logs : IsNumbered a → IsNumbered b → ShowsSilos IsMagic w.disk → IsWholeFolder w
   two_logs first second shows = record {
-    chain = λ one other left left_too x y is_x is_y. two_chain x y (of_two one (either one left) x is_x) (of_two other (either other left_too) y is_y);
+    chain = λ one other left left_too x y is_x is_y. two_chain a b front (moment_of w) either x y (of_two a b front (moment_of w) either one (either one left) x is_x) (of_two a b front (moment_of w) either other (either other left_too) y is_y);
     whole = λ image left. whole_by image (either image left) first second;
     shows = shows;
   }
@@ -109,12 +100,7 @@ migrate_keeps r stay (inr (inr is)) folder =
 
 -- ---- `upgrade`
 
--- an upgrade has no record
-records_upgraded : (entries : List LogEntry) (q : Program) → records_among (entries ++ Upgraded q ∷ []) ≡ records_among entries
-records_upgraded [] q = refl
-records_upgraded (Recorded c ∷ entries) q = ap (λ (l : List Commit). c ∷ l) (records_upgraded entries q)
-records_upgraded (Upgraded p ∷ entries) q = records_upgraded entries q
-
+-- an upgrade has no record, so the units stay numbered
 numbered_upgraded : (log : Log) (q : Program) → IsNumbered log → IsNumbered (upgraded log q)
 numbered_upgraded log q numbered = subst (AreNumbered log.base.next) (sym (records_upgraded log.entries q)) numbered
 

@@ -1,13 +1,8 @@
 -- A call that keeps its promise over a whole folder leaves a whole one.
-use Rattle.std.proofs.Common.{◌≡◌, ◌≢◌, ◌⊎◌, inl, inr, ℕ, ◌<◌, ◌≤◌, nat_le, Bool, true, false, if◌then◌else◌, List, [], ◌∷◌, length, refl, sym, ap, subst, ◌∙◌, arith}
-use Rattle.std.proofs.lemmas.Bool.{cases_eq, and_parts, leb-true}
-use Rattle.host_trait.specs.Disk.{FileState, MayLeave, settled}
-use Rattle.host_trait.specs.declared.channels.FileId.{FileId}
-use Rattle.host_trait.specs.declared.channels.FileId.TheVariants.{Manager}
+use Rattle.std.proofs.Common.{◌≡◌, ◌⊎◌, inl, inr, ℕ, List, [], sym, subst}
 use Rattle.host_trait.specs.World.{World, moment_of}
 use Rattle.silo_spec.specs.Slots.{ShowsSilos}
 use Rattle.silo_spec.specs.Moments.{IsUntouched}
-use Rattle.silo_spec.specs.OpenedDisks.{is_synced, opened_file, opened_disk}
 use Rattle.silo_spec.specs.Creation.{CameThisFar, IsNewAt}
 use Rattle.promise_spec.specs.Programs.{Program, IsChecked}
 use Rattle.promise_spec.specs.Entries.{Log}
@@ -17,7 +12,7 @@ use Rattle.promise_spec.specs.Endings as ending
 use Rattle.promise_spec.specs.Endings.{Ending}
 use Rattle.promise_spec.specs.Words.{Manner, Command, Init, Run, Show, History, Audit, Load, Check, Compact, Upgrade, Migrate}
 use Rattle.promise_spec.specs.Courses.{Observed, Course, program_in_force}
-use Rattle.promise_spec.specs.Crashes.{SurvivesCrashes, LeavesAlone}
+use Rattle.promise_spec.specs.Crashes.{SurvivesCrashes}
 use Rattle.promise_spec.specs.Refusals.{IsUnopened}
 use Rattle.promise_spec.specs.Commands.{IsProgramText, MakesAs, MakesSilo, IsReported, Reports, ShowsStates, Audits}
 use Rattle.promise_spec.specs.Loads.{bank_text, KeepsLoad, IsUnmade, from_there, LoadsFrom, Loads}
@@ -26,67 +21,19 @@ use Rattle.promise_spec.specs.Calls.{Obeys, IsBadUse}
 use Rattle.promise_spec.specs.Promise.{Promises}
 use Rattle.promise_laws.specs.Closings.{ReadsMayStay}
 use Rattle.promise_laws.specs.KeptFolders.{IsBank}
-use Rattle.promise_spec.proofs.Slots.{shows_file}
-use Rattle.promise_spec.proofs.Lists.{in_append}
 use Rattle.promise_spec.proofs.WholeFolders.{whole_folder}
-use Rattle.promise_laws.proofs.SoundFolders.{exit_of, new_folder, input_program}
+use Rattle.promise_laws.proofs.SoundFolders.{exit_of, shows_at_exit, new_folder, input_program}
 use Rattle.folder_laws.proofs.RewrittenWhole.{as_before, same_files, untouched, compact_keeps, migrate_keeps, upgrade_keeps}
-
--- ---- what an opening leaves of a file
-
--- it reads as it did
-opened_seen : (file : FileId) (state : FileState) → (opened_file file state).seen ≡ state.seen
-opened_seen file state = by (is_synced file state.seen)
-  where
-    by : (b : Bool) → (if b then settled state.seen else state).seen ≡ state.seen
-    by true = refl
-    by false = refl
-
--- a manager file that reads too short stays as it was
-short_opened : (slot : ℕ) (state : FileState) → length state.seen < 16 → opened_file (Manager slot) state ≡ state
-short_opened slot state short = by (is_synced (Manager slot) state.seen) refl
-  where
-    by : (b : Bool) → is_synced (Manager slot) state.seen ≡ b → (if is_synced (Manager slot) state.seen then settled state.seen else state) ≡ state
-    by true is =
-        let long : 16 ≤ length state.seen = leb-true 16 (length state.seen) (and_parts (nat_le 16 (length state.seen)) (nat_le slot 1) is).0 in
-        absurd (omega (arith, long, short))
-    by false is = ap (λ (b : Bool). if b then settled state.seen else state) is
 
 -- ---- runs
 
 module _ (r : Observed) (c : Course) (s : SurvivesCrashes r c) (stay_old : ReadsMayStay r.old) (stay_new : ReadsMayStay r.new) where
-  -- the exit is a moment that counts
-  alone_at_exit : LeavesAlone c.live r (moment_of r.new)
-  alone_at_exit = s.alone (moment_of r.new) (inr (in_append (moment_of r.new) c.late (moment_of r.new ∷ []) (inr (inl refl))))
-
-  -- what the files read at the exit is an image, which has a log: so its live manager file is a silo's
-  long_at_exit : 16 ≤ length (r.new.disk (Manager c.live)).seen
-  long_at_exit = (s.keeps (λ file. (r.new.disk file).seen) (exit_of r c (λ file. (r.new.disk file).seen) stay_new)).is.is_live.silo.long
-
-  -- another manager file that reads too short is as it was at entry
-  short_as_entry : (slot : ℕ) → slot ≢ c.live → length (r.new.disk (Manager slot)).seen < 16 → r.new.disk (Manager slot) ≡ r.old.disk (Manager slot)
-  short_as_entry slot other short =
-      let there : r.new.disk (Manager slot) ≡ opened_disk r.old.disk (Manager slot) = alone_at_exit.aside (Manager slot) other in
-      let read : (opened_disk r.old.disk (Manager slot)).seen ≡ (r.old.disk (Manager slot)).seen = opened_seen (Manager slot) (r.old.disk (Manager slot)) in
-      let low : length (r.old.disk (Manager slot)).seen < 16 = subst (λ (l : List ℕ). length l < 16) (ap (λ (f : FileState). f.seen) there ∙ read) short in
-      there ∙ short_opened slot (r.old.disk (Manager slot)) low
-
-  -- no image is a silo by a slot whose manager file reads too short
-  shows_at_exit : ShowsSilos IsMagic r.old.disk → ShowsSilos IsMagic r.new.disk
-  shows_at_exit shows image left slot low short silo = elim (cases_eq slot c.live) [
-    | inl same ↦ (let long : 16 ≤ length (r.new.disk (Manager slot)).seen = subst (λ (n : ℕ). 16 ≤ length (r.new.disk (Manager n)).seen) (sym same) long_at_exit in absurd (omega (arith, long, short)))
-    | inr other ↦
-        let there : r.new.disk (Manager slot) ≡ r.old.disk (Manager slot) = short_as_entry slot other short in
-        shows_file r.old.disk shows stay_old slot low (subst (λ (f : FileState). length f.seen < 16) there short) (image (Manager slot))
-        (subst (λ (f : FileState). MayLeave f (image (Manager slot))) there (left (Manager slot))) silo
-  ]
-
   -- what survives crashes leaves a whole folder
   survives : ShowsSilos IsMagic r.old.disk → IsWholeFolder r.new
   survives shows = record {
     chain = λ one other left left_too. s.chain one other (exit_of r c one left) (exit_of r c other left_too);
     whole = λ image left. s.whole image (exit_of r c image left);
-    shows = shows_at_exit shows;
+    shows = shows_at_exit r c s stay_old stay_new shows;
   }
 
 run_keeps : (m : Manner) (r : Observed) → ReadsMayStay r.old → ReadsMayStay r.new → Promises m r → IsWholeFolder r.old → IsWholeFolder r.new

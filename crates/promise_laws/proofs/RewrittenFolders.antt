@@ -32,11 +32,11 @@ IsGood log = IsSerialFrom log.base log.entries × AreNumbered log.base.next (rec
 
 -- each image has one of two logs, of which the first is a prefix of the second
 module _ (a b : Log) (front : IsPrefixOf a b) (m : Moment) (either : (image : Image) → IsImage m.disk image → HasLog image a ⊎ HasLog image b) where
-  of_two : (image : Image) → HasLog image a ⊎ HasLog image b → (log : Log) → HasLog image log → (log ≡ a) ⊎ (log ≡ b)
+  pub of_two : (image : Image) → HasLog image a ⊎ HasLog image b → (log : Log) → HasLog image log → (log ≡ a) ⊎ (log ≡ b)
   of_two image (inl x) log y = inl (one_log y.0 x.0 y.1 x.1 image log a y.2 x.2)
   of_two image (inr x) log y = inr (one_log y.0 x.0 y.1 x.1 image log b y.2 x.2)
 
-  two_chain : (x y : Log) → (x ≡ a) ⊎ (x ≡ b) → (y ≡ a) ⊎ (y ≡ b) → IsPrefixOf x y ⊎ IsPrefixOf y x
+  pub two_chain : (x y : Log) → (x ≡ a) ⊎ (x ≡ b) → (y ≡ a) ⊎ (y ≡ b) → IsPrefixOf x y ⊎ IsPrefixOf y x
   two_chain x y (inl e) (inl f) = inl (subst (λ (l : Log). IsPrefixOf x l) (e ∙ sym f) (of_itself x))
   two_chain x y (inl e) (inr f) = inl (subst (λ (l : Log). IsPrefixOf l y) (sym e) (subst (λ (l : Log). IsPrefixOf a l) (sym f) front))
   two_chain x y (inr e) (inl f) = inr (subst (λ (l : Log). IsPrefixOf l x) (sym f) (subst (λ (l : Log). IsPrefixOf a l) (sym e) front))

@@ -106,7 +106,7 @@ module _ (r : Observed) (c : Course) (s : SurvivesCrashes r c) (stay_old : Reads
       there ∙ short_opened slot (r.old.disk (Manager slot)) low
 
   -- no image is a silo by a slot whose manager file reads too short
-  shows_at_exit : ShowsSilos IsMagic r.old.disk → ShowsSilos IsMagic r.new.disk
+  pub shows_at_exit : ShowsSilos IsMagic r.old.disk → ShowsSilos IsMagic r.new.disk
   shows_at_exit shows image left slot low short silo = elim (cases_eq slot c.live) [
     | inl same ↦ (let long : 16 ≤ length (r.new.disk (Manager slot)).seen = subst (λ (n : ℕ). 16 ≤ length (r.new.disk (Manager n)).seen) (sym same) long_at_exit in absurd (omega (arith, long, short)))
     | inr other ↦

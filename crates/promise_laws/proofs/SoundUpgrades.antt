@@ -25,7 +25,7 @@ serial_upgraded before (Recorded c ∷ entries) q serial = (serial.0, serial_upg
 serial_upgraded before (Upgraded p ∷ entries) q serial = serial_upgraded (after_entry before (Upgraded p)) entries q serial
 
 -- and its records
-records_upgraded : (entries : List LogEntry) (q : Program) → records_among (entries ++ Upgraded q ∷ []) ≡ records_among entries
+pub records_upgraded : (entries : List LogEntry) (q : Program) → records_among (entries ++ Upgraded q ∷ []) ≡ records_among entries
 records_upgraded [] q = refl
 records_upgraded (Recorded c ∷ entries) q = ap (λ (l : List Commit). c ∷ l) (records_upgraded entries q)
 records_upgraded (Upgraded p ∷ entries) q = records_upgraded entries q
