@@ -1,3 +1,2 @@
 pub mod PlayProgress
 pub mod Steps
-pub mod Trees

@@ -3,4 +3,4 @@ pub mod Founds
 pub mod Blocks
 pub mod AcceptedBodies
 pub mod ScopePlaces
-pub mod StatementTrees
+pub mod Lefts

@@ -27,8 +27,3 @@ Answers (Err fault) found = Fails fault found
 abbrev pub Leaves : {A B : Type 0} → Result A CheckFault → FirstFault → B → B → Type 0
 Leaves (Ok done) found left wanted = (found ≡ None) × (left ≡ wanted)
 Leaves (Err fault) found left wanted = Fails fault found
-
--- the same, for a check that makes a value
-abbrev pub Gives : {A B : Type 0} → (A → B) → Result A CheckFault → FirstFault → B → Type 0
-Gives view (Ok made) found wanted = (found ≡ None) × (view made ≡ wanted)
-Gives view (Err fault) found wanted = Fails fault found

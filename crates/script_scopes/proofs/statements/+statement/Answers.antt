@@ -11,7 +11,8 @@ use Rattle.script_scopes.specs.Settings.{setting_of}
 use Rattle.script_scopes.specs.Statements.{with_name, source_fault, block_fault, statement_fault, scope_after}
 use Rattle.script_scopes.proofs.Lists.{drop_map, drop_end, taken}
 use Rattle.script_scopes.proofs.Blocks.{HasChecked, goes_further, fails_here, ends, attempt_done, attempt_tree}
-use Rattle.script_scopes.proofs.StatementTrees.{let_tree, assign_tree, set_tree, call_statement_tree, return_tree, leaves_them}
+use Rattle.script_tree.proofs.StatementTrees.{let_tree, assign_tree, set_tree, call_statement_tree, return_tree}
+use Rattle.script_scopes.proofs.Lefts.{leaves_them}
 use Rattle.script_scopes.proofs.statements.+statement.Goals as goal
 
 pub check_block-returns-in_err-check_statement : goal.check_block-returns-in_err-check_statement

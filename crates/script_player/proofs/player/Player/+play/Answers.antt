@@ -28,7 +28,7 @@ use Rattle.script_player.specs.declared.flows.Flow.{Flow}
 use Rattle.script_player.specs.declared.flows.Answer.{Answer}
 use Rattle.script_player.proofs.PlayProgress.{ends_at, ends_on, leads_on}
 use Rattle.script_player.proofs.Steps.{step_refused, turn_reached, turn_refused, call_reached, enters_plain, enters_joined, past_deepest}
-use Rattle.script_player.proofs.Trees.{let_tree, assign_tree, call_statement_tree, if_tree, while_tree, attempt_tree}
+use Rattle.script_tree.proofs.StatementTrees.{let_tree, assign_tree, call_statement_tree, if_tree, while_tree, attempt_tree}
 use Rattle.script_player.proofs.player.Player.+play.Goals as goal
 
 pub play_call-returns-in_default-clause-led : goal.play_call-returns-in_default-clause-led

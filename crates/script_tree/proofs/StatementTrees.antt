@@ -1,17 +1,16 @@
--- The trees of the statements that the code holds, and checks of one that leave the names in scope.
-use Rattle.std.proofs.Common.{◌≡◌, Ok, Err, Result}
+-- The trees of the statements that the code holds.
+use Rattle.std.proofs.Common.{◌≡◌, ℕ, Option, Some, None}
 use Rattle.script_tree.specs.declared.expressions.Name.{Name}
 use Rattle.script_tree.specs.declared.expressions.CallExpr.{CallExpr}
 use Rattle.script_tree.specs.declared.expressions.Expr.{Expr}
+use Rattle.script_tree.specs.declared.items.Items.{Items}
 use Rattle.script_tree.specs.declared.statements.Source.{Source}
 use Rattle.script_tree.specs.declared.statements.Stmt.{Stmt}
 use Rattle.script_tree.specs.declared.statements.Stmt as stmt
 use Rattle.script_tree.specs.declared.statements.Stmt.TheOpen as open_stmt
 use Rattle.script_tree.specs.declared.statements.Stmt.TheFolds.{fold-roll-Stmt}
 use Rattle.script_tree.specs.Exprs.{expr_tree, call_tree}
-use Rattle.script_tree.specs.Stmts.{StmtTree, Bind, Rebind, SetField, Perform, Give, source_tree, stmt_step, stmt_tree}
-use Rattle.script_scopes.specs.declared.faults.CheckFault.{CheckFault}
-use Rattle.script_scopes.specs.FirstFaults.{FirstFault, Answers, Leaves}
+use Rattle.script_tree.specs.Stmts.{StmtTree, Bind, Rebind, SetField, Perform, Give, Choose, Repeat, Try, source_tree, block_tree, else_tree, stmt_step, stmt_tree, stmt_trees}
 
 pub let_tree : (name : Name) (value : Source) → stmt_tree (stmt.Let name value) ≡ Bind name (source_tree value)
 unfolding stmt.roll-Stmt denote.Hole.Carrier.roll
@@ -33,7 +32,17 @@ pub return_tree : (value : Expr) → stmt_tree (stmt.Return value) ≡ Give (exp
 unfolding stmt.roll-Stmt denote.Hole.Carrier.roll
 return_tree value = fold-roll-Stmt StmtTree stmt_step (open_stmt.Return value)
 
--- a check that leaves the names in scope as they are to be
-pub leaves_them : {A B : Type 0} (r : Result A CheckFault) (found : FirstFault) (left wanted : B) → left ≡ wanted → Answers r found → Leaves r found left wanted
-leaves_them (Ok done) found left wanted l a = (a, l)
-leaves_them (Err fault) found left wanted l a = a
+pub if_tree : (test : Expr) (then_block : Items Stmt) (other : Option (Items Stmt)) →
+    stmt_tree (stmt.If test then_block other) ≡ Choose (expr_tree test) (block_tree (stmt_trees then_block.list.items)) (else_tree other)
+unfolding stmt.roll-Stmt denote.Hole.Carrier.roll
+if_tree test then_block None = fold-roll-Stmt StmtTree stmt_step (open_stmt.If test then_block None)
+if_tree test then_block (Some other) = fold-roll-Stmt StmtTree stmt_step (open_stmt.If test then_block (Some other))
+
+pub while_tree : (test : Expr) (body : Items Stmt) → stmt_tree (stmt.While test body) ≡ Repeat (expr_tree test) (block_tree (stmt_trees body.list.items))
+unfolding stmt.roll-Stmt denote.Hole.Carrier.roll
+while_tree test body = fold-roll-Stmt StmtTree stmt_step (open_stmt.While test body)
+
+pub attempt_tree : (at : ℕ) (name : Name) (call : CallExpr) (then_block other : Items Stmt) →
+    stmt_tree (stmt.Attempt at name call then_block other) ≡ Try at name (call_tree call) (block_tree (stmt_trees then_block.list.items)) (block_tree (stmt_trees other.list.items))
+unfolding stmt.roll-Stmt denote.Hole.Carrier.roll
+attempt_tree at name call then_block other = fold-roll-Stmt StmtTree stmt_step (open_stmt.Attempt at name call then_block other)
